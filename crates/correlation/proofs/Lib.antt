@@ -1,0 +1,6 @@
+pub mod Sums
+pub mod Magnify
+pub mod Laws
+pub mod Places
+pub mod Lawful
+pub mod Squares

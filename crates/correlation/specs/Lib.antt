@@ -1,0 +1,4 @@
+pub mod Sums
+pub mod Tables
+pub mod Roots
+pub mod Answers
