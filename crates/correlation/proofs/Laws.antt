@@ -103,6 +103,7 @@ module _ (n : ℕ) (r : ℕ → ℕ → ℕ) (law : Lawful n r) where
 
   pub root-laws : RootLaws n r
   root-laws = record {
+    least = λ c. least-root-is (form n r c);
     zeros = λ c h. omega (arith, root-within (form n r c) 0 (omega (arith, form-zeros c h)));
     rises = λ c d h. root-within (form n r c) (root n r d) (le-trans (form-rises c d h) (least-root-is (form n r d) .enough));
     steady = λ c d. root-within _ _ (form-widens c d (root n r c) (least-root-is (form n r c) .enough));

@@ -4,3 +4,4 @@ pub mod Laws
 pub mod Places
 pub mod Lawful
 pub mod Squares
+pub mod Computed

@@ -29,6 +29,8 @@ root n r c = least-root (form n r c)
 
 -- what holds of the roots of every lawful table
 pub record RootLaws (n : ℕ) (r : ℕ → ℕ → ℕ) : Type 0 where
+  -- it is the least whole number whose hundredfold square is at least the form
+  pub least : (c : ℕ → ℕ) → LeastRoot (form n r c) (root n r c)
   -- the root of no charges but zeros is 0
   pub zeros : (c : ℕ → ℕ) → ((i : ℕ) → i < n → c i ≡ 0) → root n r c ≡ 0
   -- it never falls when a charge rises

@@ -57,8 +57,8 @@ pub(crate) fn upper(size: usize, square: &[u32]) -> [u32; ABOVE]
     ensures { λ r. ⌜ Copied size (now (square .entry)) r (above-count size) ⌝ }
 {
     let mut above = [0u32; ABOVE];
-    for i in 0..size {
-        copy_row(size, square, i, &mut above);
+    for row in 0..size {
+        copy_row(size, square, row, &mut above);
     }
     above
 }

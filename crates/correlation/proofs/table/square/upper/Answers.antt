@@ -10,5 +10,5 @@ use Rattle.correlation.proofs.table.square.upper.Needs as need
 pub copy-row-requires : need.copy-row-requires
 copy-row-requires c κs = let few = above-count-few (c .args .size) (c .pre .few) in search needs
 
-pub loop-i-again : need.loop-i-again
-loop-i-again c = (search needs, rw add-one (c .copy-row .ensures (c .loop-i .inv .1)))
+pub loop-row-again : need.loop-row-again
+loop-row-again c = (search needs, rw add-one (c .copy-row .ensures (c .loop-row .inv .1)))

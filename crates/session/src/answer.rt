@@ -1,0 +1,33 @@
+// What is answered to a statement, and how that is printed.
+ghost use Rattle.session.specs.Shown.{answer-text};
+ghost use Rattle.std.specs.declared.option.Option.the-variants.{Some};
+use refusals::Refusal;
+use refusals::RefusalDisplay;
+use std::fmt;
+
+#[derive(Clone, Copy)]
+pub enum Answer {
+    // The table of a statement is lawful, has so many branches, and stands.
+    TableStands(u64),
+    TableRefused(Refusal),
+    Root(u64),
+    RootRefused(Refusal),
+    // A charge is above what any charge may be.
+    ChargeOutOfRange,
+}
+
+pub impl fmt::Display for Answer as AnswerDisplay {
+    ghost shown = { λ a. Some (answer-text a) };
+
+    fn fmt<W: fmt::Write>(&self, f: &mut fmt::Formatter<W>) -> fmt::Result {
+        match self {
+            Answer::TableStands(size) => write!(f, "table: lawful, {size} branches"),
+            Answer::TableRefused(refusal) => write!(f, "table: refused {refusal}"),
+            Answer::Root(root) => write!(f, "root: {root}"),
+            Answer::RootRefused(refusal) => write!(f, "root: refused {refusal}"),
+            Answer::ChargeOutOfRange => f.write_str(
+                "root: out of range: a charge is above 4294967295",
+            ),
+        }
+    }
+}
