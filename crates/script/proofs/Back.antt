@@ -1,0 +1,126 @@
+-- Statements that are written out plainly are the meaning of that text.
+use mathlib.Core.Path.{_≡_, refl, sym, ap, _∙_}
+use mathlib.Core.Bool.{true, false}
+use mathlib.Core.List.{List, [], _∷_, _++_, map, append-nil}
+use Prim.Native.Nat.{ℕ, _+_, _^_, _≤_, _<_, min}
+use native.Mathlib.Omega.{arith}
+use borrow.Author.Needs.{needs}
+use lib.ListN.{length}
+use Rattle.std.proofs.shelf.Decimals.{decimal-some, digits-decimal, value-decimal}
+use Rattle.std.proofs.shelf.Elements.{all-append, all-weaker}
+use Rattle.std.proofs.shelf.Numerals.{Numerals, numerals-by-fold, tells-allDigits}
+use Rattle.std.proofs.shelf.Tests.{cond-true, cond-false, or-from, ne-eqb}
+use Rattle.std.specs.Written.{decimal}
+use Rattle.std.specs.declared.alloc.Global.{Global}
+use Rattle.std.specs.declared.option.Option.the-variants.{Some}
+use Rattle.std.specs.declared.result.Result.{Result}
+use Rattle.std.specs.declared.result.Result.the-variants.{Ok, Err}
+use Rattle.std.specs.declared.vec.Vec.{Vec}
+use Rattle.std.specs.shelf.Lists.{All}
+use Rattle.std.specs.shelf.Text.{allDigits}
+use Rattle.script.specs.declared.Fault.{Fault}
+use Rattle.script.specs.declared.Fault.the-variants.{Memory, Line}
+use Rattle.script.specs.declared.Statement.{Statement}
+use Rattle.script.specs.declared.words.Mark.{Mark}
+use Rattle.script.specs.declared.words.Mark.the-variants.{LineEnd, Comment, Space}
+use Rattle.script.specs.Meaning.{Said, table, root, table-of, root-of, statement-of, above, line-above, lines-from, meaning, Parsed}
+use Rattle.script.specs.Numbers.{largest, written, number-of, both, numbers-of}
+use Rattle.script.specs.Pieces.{is-mark, before, joins, pieces, filled, lines, words}
+use Rattle.script.specs.Plain.{keyword, numbers-in, spaced, plain-line, plain-text, Within, ReadBack}
+use Rattle.script.proofs.Cuts.{filled-some}
+use Rattle.script.proofs.Saturates.{of-some}
+
+-- bytes none of which is the mark
+abbrev Free : Mark → List ℕ → Type 0
+Free m bs = All (λ b. is-mark m b ≡ false) bs
+
+before-free : (m : Mark) (bs : List ℕ) → Free m bs → before m bs ≡ bs
+before-free m [] h = refl
+before-free m (b ∷ bs) h = cond-false _ _ _ (h .0) ∙ ap (λ l. b ∷ l) (before-free m bs (h .1))
+
+-- a piece ends at the first mark
+piece-ends : (m : Mark) (p : List ℕ) (b : ℕ) (bs : List ℕ) → Free m p → is-mark m b ≡ true → pieces m (p ++ b ∷ bs) ≡ p ∷ pieces m bs
+piece-ends m [] b bs h e = cond-true _ _ _ e
+piece-ends m (x ∷ p) b bs h e = cond-false _ _ _ (h .0) ∙ ap (joins x) (piece-ends m p b bs (h .1) e)
+
+-- bytes without a mark are one piece
+last-piece : (m : Mark) (x : ℕ) (p : List ℕ) → Free m (x ∷ p) → pieces m (x ∷ p) ≡ (x ∷ p) ∷ []
+last-piece m x [] h = cond-false _ _ _ (h .0)
+last-piece m x (y ∷ p) h = cond-false _ _ _ (h .0) ∙ ap (joins x) (last-piece m y p (h .1))
+
+-- every mark stands below the digits and the letters
+free-byte : (m : Mark) (b : ℕ) → 48 ≤ b → is-mark m b ≡ false
+free-byte LineEnd b h = ne-eqb b 10 (λ e. omega arith)
+free-byte Comment b h = ne-eqb b 35 (λ e. omega arith)
+free-byte Space b h = or-from _ _ (ne-eqb b 32 (λ e. omega arith)) (or-from _ _ (ne-eqb b 9 (λ e. omega arith)) (ne-eqb b 13 (λ e. omega arith)))
+
+free-digits : (m : Mark) (ds : List ℕ) → allDigits ds ≡ true → Free m ds
+free-digits m [] h = tt
+free-digits m (c ∷ cs) h = let p = tells-allDigits .parts c cs h in (free-byte m c (p .0 .0), free-digits m cs (p .1))
+
+-- `written` reads digits as the library does
+own : Numerals (λ ds. allDigits ds ≡ true) (written 0)
+own = numerals-by-fold _ tells-allDigits written (search needs)
+
+number-decimal : (n : ℕ) → n ≤ largest → number-of (decimal n) ≡ Some n
+number-decimal n h =
+    let small : n < 2 ^ 64 = omega arith in
+    let some = decimal-some n small in
+    let cut : min n largest ≡ n = omega arith in
+    sym (of-some (decimal n) (sym (ne-eqb _ 0 (λ e. omega arith))))
+    ∙ cond-true _ _ _ (digits-decimal own n small) ∙ ap (λ k. Some (min k largest)) (value-decimal own n small) ∙ ap Some cut
+
+numbers-decimal : (ns : List ℕ) → All (λ n. n ≤ largest) ns → numbers-of (map decimal ns) ≡ Some ns
+numbers-decimal [] h = refl
+numbers-decimal (n ∷ ns) h = ap (λ o. both o (numbers-of (map decimal ns))) (number-decimal n (h .0)) ∙ ap (both (Some n)) (numbers-decimal ns (h .1))
+
+-- the digits of a number hold no mark
+free-decimal : (m : Mark) (n : ℕ) → n ≤ largest → Free m (decimal n)
+free-decimal m n h = free-digits m (decimal n) (digits-decimal own n (omega arith))
+
+last-word : (w : List ℕ) → 0 < length w → Free Space w → words w ≡ w ∷ []
+last-word [] some h = absurd (omega arith)
+last-word (b ∷ bs) some h = ap filled (last-piece Space b bs h)
+
+words-spaced : (w ns : List ℕ) → 0 < length w → Free Space w → All (λ n. n ≤ largest) ns → words (w ++ spaced ns) ≡ w ∷ map decimal ns
+words-spaced w [] some h small = ap words (append-nil w) ∙ last-word w some h
+words-spaced w (n ∷ ns) some h small =
+    ap filled (piece-ends Space w 32 (decimal n ++ spaced ns) h refl) ∙ filled-some w _ some
+    ∙ ap (λ l. w ∷ l) (words-spaced (decimal n) ns (decimal-some n (omega (arith, small .0))) (free-decimal Space n (small .0)) (small .1))
+
+free-spaced : (m : Mark) → is-mark m 32 ≡ false → (ns : List ℕ) → All (λ n. n ≤ largest) ns → Free m (spaced ns)
+free-spaced m e [] h = tt
+free-spaced m e (n ∷ ns) h = (e, all-append _ (decimal n) (spaced ns) (free-decimal m n (h .0)) (free-spaced m e ns (h .1)))
+
+high-keyword : (s : Said) → All (λ b. 48 ≤ b) (keyword s)
+high-keyword (table n ns) = search needs
+high-keyword (root ns) = search needs
+
+free-keyword : (m : Mark) (s : Said) → Free m (keyword s)
+free-keyword m s = all-weaker _ _ (free-byte m) (keyword s) (high-keyword s)
+
+free-line : (m : Mark) → is-mark m 32 ≡ false → (s : Said) → All (λ n. n ≤ largest) (numbers-in s) → Free m (plain-line s)
+free-line m e s small = all-append _ (keyword s) (spaced (numbers-in s)) (free-keyword m s) (free-spaced m e (numbers-in s) small)
+
+some-keyword : (s : Said) → 0 < length (keyword s)
+some-keyword (table n ns) = omega arith
+some-keyword (root ns) = omega arith
+
+statement-back : (s : Said) (ws : List (List ℕ)) → numbers-of ws ≡ Some (numbers-in s) → statement-of (keyword s) ws ≡ Ok s
+statement-back (table n ns) ws e = ap table-of e
+statement-back (root ns) ws e = ap root-of e
+
+lines-back : (k : ℕ) (ss : List Said) → Within ss → lines-from k (lines (plain-text ss)) ≡ Ok ss
+lines-back k [] h = refl
+lines-back k (s ∷ ss) h =
+    let small = h .0 in
+    let content = ap words (before-free Comment (plain-line s) (free-line Comment refl s small)) ∙ words-spaced (keyword s) (numbers-in s) (some-keyword s) (free-keyword Space s) small in
+    ap (lines-from k) (piece-ends LineEnd (plain-line s) 10 (plain-text ss) (free-line LineEnd refl s small) refl)
+    ∙ ap (λ ws. line-above k ws (lines-from (k + 1) (lines (plain-text ss)))) content
+    ∙ ap (λ o. above k o (lines-from (k + 1) (lines (plain-text ss)))) (statement-back s (map decimal (numbers-in s)) (numbers-decimal (numbers-in s) small))
+    ∙ ap (above k (Ok s)) (lines-back (k + 1) ss (h .1))
+
+pub read-back : (text : List ℕ) (r : Result (Vec Statement Global) Fault) → Parsed text r → ReadBack text r
+read-back text (Ok v) p = λ ss h e. let m = sym p ∙ ap meaning e ∙ lines-back 1 ss h in cc
+read-back text (Err Memory) p = tt
+read-back text (Err (Line n m)) p = λ ss h e. let q = sym p ∙ ap meaning e ∙ lines-back 1 ss h in let z : _≡_ {A = ℕ} 0 1 = cc in omega arith
