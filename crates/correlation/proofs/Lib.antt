@@ -5,3 +5,4 @@ pub mod Places
 pub mod Lawful
 pub mod Squares
 pub mod Computed
+pub mod Standing

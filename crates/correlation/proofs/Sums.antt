@@ -71,3 +71,8 @@ sum-product n m f g = sum-cong n _ _ (λ i l. sum-mul m (f i) g) ∙ sum-mul-rig
 pub sum-twice : (n : ℕ) (f g h : ℕ → ℕ) → ((i : ℕ) → i < n → 2 * f i ≤ g i + h i) → 2 * sum-below n f ≤ sum-below n g + sum-below n h
 sum-twice zero f g h e = omega arith
 sum-twice (suc n) f g h e = omega (arith, sum-twice n f g h (fewer n e), e n (le-refl (suc n)))
+
+-- the first term taken out
+pub sum-first : (n : ℕ) (f : ℕ → ℕ) → sum-below (suc n) f ≡ f 0 + sum-below n (λ i. f (suc i))
+sum-first zero f = omega arith
+sum-first (suc n) f = omega (arith, sum-first n f)

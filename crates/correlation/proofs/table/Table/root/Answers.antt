@@ -7,17 +7,14 @@ use Rattle.std.proofs.shelf.Tests.{eq-eqb, ne-eqb, cond-true, cond-false}
 use Rattle.std.specs.declared.result.Result.the-variants.{Ok}
 use Rattle.correlation.specs.Answers.{size-of, entry-of}
 use Rattle.correlation.specs.Roots.{least-root, RootLaws}
-use Rattle.correlation.specs.Tables.{Lawful}
 use Rattle.correlation.specs.declared.table.Table.{Table}
 use Rattle.correlation.proofs.Laws.{root-laws}
 use Rattle.correlation.proofs.Places.{above-count-few}
+use Rattle.correlation.proofs.Standing.{table-lawful}
 use Rattle.correlation.proofs.table.Table.root.Needs as need
 
-lawful : (t : Table) → Lawful (size-of t) (entry-of t)
-lawful t = record { branches = t .branches; range = t .range; diagonal = t .diagonal; symmetric = t .symmetric; rows = t .rows }
-
 laws : (t : Table) → RootLaws (size-of t) (entry-of t)
-laws t = root-laws (size-of t) (entry-of t) (lawful t)
+laws t = root-laws (size-of t) (entry-of t) (table-lawful t)
 
 pub returns-then-charges-self : need.returns-then-charges-self
 returns-then-charges-self c = record { value = sym (cond-false _ _ _ (ne-eqb _ _ (c .if-charges-self .taken))); laws = laws (c .args .self .now) }

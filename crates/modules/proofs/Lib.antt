@@ -1,0 +1,6 @@
+pub mod Units
+pub mod Lists
+pub mod Close
+pub mod Charging
+pub mod Answering
+pub mod Rooting

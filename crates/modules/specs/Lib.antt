@@ -1,0 +1,7 @@
+pub mod Sheets
+pub mod Trees
+pub mod Bounds
+pub mod Answers
+pub mod Gathered
+pub mod Made
+pub mod Rooted

@@ -1,0 +1,34 @@
+// Risk modules: what one stands for, and the kinds that the book brings.
+mod answer;
+mod branches;
+mod charges;
+mod choice;
+mod greater;
+mod line;
+mod module;
+mod pricing;
+mod root;
+mod sheet;
+mod sum;
+
+pub use answer::Charge;
+pub use branches::Branches;
+pub use branches::End;
+pub use branches::EndBranches;
+pub use branches::PairBranches;
+pub use charges::Charges;
+pub use choice::Choice;
+pub use choice::ChoiceModule;
+pub use greater::Greater;
+pub use greater::GreaterModule;
+pub use line::Line;
+pub use line::LineModule;
+pub use module::RiskModule;
+pub use pricing::floors_meet_ceilings;
+pub use pricing::price;
+pub use root::Root;
+pub use root::RootModule;
+pub use sheet::LINES;
+pub use sheet::Sheet;
+pub use sum::Sum;
+pub use sum::SumModule;
