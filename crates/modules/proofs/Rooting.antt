@@ -18,6 +18,7 @@ use Rattle.std.specs.declared.result.Result.the-variants.{Ok, Err}
 use Rattle.std.specs.shelf.Lists.{sum}
 use Rattle.modules.specs.Answers.{Priced, Bounded, Bounded-all, answer-of, charge-of, charge-answer}
 use Rattle.modules.specs.Bounds.{Tabled, Tabled-all}
+use Rattle.modules.specs.Charged.{charged, charged-all}
 use Rattle.modules.specs.Rooted.{root-tree, root-value}
 use Rattle.modules.specs.Trees as trees
 use Rattle.modules.specs.Trees.{Tree, Forest, none, root, branch-count, gross-all, roundings-all}
@@ -47,6 +48,14 @@ module _ (t : Table) (f : Forest) where
 
   pub root-tree-bounded : (s : Sheet) (cs : List ℕ) → Bounded-all f s cs → Bounded (root-tree t f) s (root-value t f cs)
   root-tree-bounded s cs all = bounded-by (eqb (branch-count f) (size-of t)) (eqb-true _ _) s cs all
+
+  charged-by : (b : Bool) → (b ≡ true → branch-count f ≡ size-of t) → (s : Sheet) (cs : List ℕ) → cs ≡ charged-all f s → cond b (roots.root (size-of t) (entry-of t) (charge-at cs)) 0 ≡ charged (cond b (root (above-of t) f) (trees.sum none)) s
+  charged-by true fits s cs e =
+      sym (root-fits (fits refl) (charge-at cs)) ∙ ap (λ l. roots.root (branch-count f) (entry (branch-count f) (above-of t)) (charge-at l)) e
+  charged-by false fits s cs e = refl
+
+  pub root-charged : (s : Sheet) (cs : List ℕ) → cs ≡ charged-all f s → root-value t f cs ≡ charged (root-tree t f) s
+  root-charged s cs e = charged-by (eqb (branch-count f) (size-of t)) (eqb-true _ _) s cs e
 
   -- the branches fit the table, and their charges were gathered into a list that was empty
   module _ (s : Sheet) (cs list after before : List ℕ) (fits : eqb (branch-count f) (size-of t) ≡ true) (all : Bounded-all f s cs) (empty : before ≡ []) (gathered : length before + branch-count f ≤ 8 → after ≡ before ++ cs) (read : list ≡ after) where

@@ -5,3 +5,4 @@ pub mod Answers
 pub mod Gathered
 pub mod Made
 pub mod Rooted
+pub mod Charged
