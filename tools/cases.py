@@ -39,11 +39,67 @@ def root(r, charges):
     return w
 
 
+MEANINGS = {27: "the gross is too large", 28: "there are too many roundings"}
+
+
+def line(n):
+    return ("line", n)
+
+
+def total_of(sheet, n):
+    return sheet.get(n, 0)
+
+
+def evaluate(tree, sheet):
+    """Gross, roundings and charge of a tree at a sheet of exact totals, in ten-thousandths of a unit."""
+    kind = tree[0]
+    if kind == "line":
+        units = -(-total_of(sheet, tree[1]) // 10000)
+        return units, 1, units
+    if kind == "choice":
+        _, a, b, one, other = tree
+        return evaluate(one if total_of(sheet, a) >= total_of(sheet, b) else other, sheet)
+    parts = [evaluate(t, sheet) for t in tree[-1]]
+    gross = sum(p[0] for p in parts)
+    roundings = sum(p[1] for p in parts)
+    charges = [p[2] for p in parts]
+    if kind == "sum":
+        return gross, roundings, sum(charges)
+    if kind == "greater":
+        return gross, roundings, max(charges)
+    return gross, roundings + 1, root(square_of(len(charges), tree[1]), charges)
+
+
+def market(spread, between, with_estate):
+    """The market root: interest, spread, equity, real estate, currency, concentration."""
+    equity_root = ("root", [75, 100, 75, 75, 75, 75], [
+        ("sum", [line(17), line(18)]),
+        ("root", [75], [line(19), line(20)]),
+        line(21),
+        line(22),
+    ])
+    equity = ("sum", [line(23), equity_root])
+    estate = ("sum", [line(24), line(25)])
+    currency = ("greater", [line(26), line(27)])
+    entries = [25, 25, 25, 25, 0, between, with_estate, 25, 0, 50, 25, 0, 25, 0, 0]
+    return ("root", entries, [line(14), line(spread), equity, estate, currency, line(28)])
+
+
+STANDARD = ("root", [0, 25, 25, 25, 25, 25, 25, 25, 25, 25], [
+    line(1),
+    ("sum", [line(n) for n in range(2, 10)]),
+    ("sum", [line(n) for n in range(10, 14)]),
+    ("choice", 15, 16, market(15, 75, 50), market(16, 0, 0)),
+    line(29),
+])
+
+
 class Desk:
     """Answers statements as the program should."""
 
     def __init__(self):
         self.table = [[100]]
+        self.sheet = {}
         self.lines = []
         self.answers = []
 
@@ -63,6 +119,27 @@ class Desk:
             self.answers.append(f"root: {REFUSED}")
         else:
             self.answers.append(f"root: {root(self.table, charges)}")
+
+
+    def set_total(self, n, amount):
+        self.lines.append(f"total {n} {amount}")
+        if amount > 2_000_000_000_000:
+            self.answers.append("total: out of range: the amount is above 2000000000000")
+        elif not 1 <= n <= 29:
+            self.answers.append("total: refused 23 at 0: the value is out of range")
+        else:
+            self.sheet[n] = amount
+            self.answers.append(f"total: line {n} is {amount}")
+
+    def price(self):
+        self.lines.append("price standard")
+        gross, roundings, charge = evaluate(STANDARD, self.sheet)
+        if gross > 250_000_000:
+            self.answers.append(f"price standard: refused 27: {MEANINGS[27]}")
+        elif roundings > 1000:
+            self.answers.append(f"price standard: refused 28: {MEANINGS[28]}")
+        else:
+            self.answers.append(f"price standard: gross {gross}, roundings {roundings}, charge {charge}")
 
 
 def entries_like(rnd, n, kind):
@@ -101,6 +178,32 @@ def main():
             desk.ask_root([1] * (size + 1))
             desk.ask_root([LARGEST + 1] * size)
             desk.ask_root([rnd.randrange(100)] + [0] * (size - 1))
+    desk.price()
+    desk.set_total(0, 5)
+    desk.set_total(30, 5)
+    desk.set_total(10**30, 5)
+    desk.set_total(1, 2_000_000_000_001)
+    desk.set_total(31, 10**40)
+    for turn in range(40):
+        top = (20_000, 50_000_000, 3_000_000_000, 160_000_000_000, 2_000_000_000_000)[turn % 5]
+        for n in range(1, 30):
+            desk.set_total(n, rnd.randrange(top + 1) if rnd.random() < 0.7 else 0)
+        desk.price()
+        # a tie of the spread totals, and the least step either way, with the same whole units
+        t = 10000 * rnd.randrange(1, 9000) + 5
+        for up, down in ((t, t), (t, t + 1), (t + 1, t)):
+            desk.set_total(15, up)
+            desk.set_total(16, down)
+            desk.price()
+    for n in range(1, 30):
+        desk.set_total(n, 0)
+    for amount in (2_000_000_000_000, 2_000_000_000_000 - 1):
+        desk.set_total(1, amount)
+        desk.price()
+    desk.set_total(29, 500_000_000_000)
+    desk.price()
+    desk.set_total(29, 500_000_000_001)
+    desk.price()
     folder = Path(__file__).resolve().parent.parent / "crates" / "cases"
     (folder / "stdin").write_text("\n".join(desk.lines) + "\n")
     (folder / "stdout").write_text("\n".join(desk.answers) + "\n")

@@ -35,6 +35,7 @@ pub use plain::PlainModule;
 pub use plain::RootPlain;
 pub use plain::SumPlain;
 pub use pricing::floors_meet_ceilings;
+pub use pricing::plain_price;
 pub use pricing::price;
 pub use root::Root;
 pub use root::RootModule;

@@ -3,8 +3,10 @@ ghost use mathlib.Core.Path.{_≡_};
 ghost use Prim.Native.Nat.{ℕ, _≤_};
 ghost use Rattle.modules.specs.Answers.{Within, charge-answer};
 ghost use Rattle.modules.specs.Bounds.{Close, CloseAt};
+ghost use Rattle.modules.specs.Charged.{charged};
 ghost use Rattle.std.specs.Vec.{made};
 use crate::Charge;
+use crate::PlainModule;
 use crate::RiskModule;
 use crate::Sheet;
 use refusals::Refusal;
@@ -17,6 +19,13 @@ pub fn price<M: RiskModule>(module: &M, sheet: &Sheet) -> Result<Charge, Refusal
     ensures close { λ _. ⌜ ((k : ℕ) → 1 ≤ k → CloseAt (M·RiskModule .tree (now («module» .entry))) (now (sheet .entry)) k) ⌝ }
 {
     module.charge(sheet)
+}
+
+// The same of a module that charges what the five kinds give for its tree, by that charge.
+pub fn plain_price<M: PlainModule>(module: &M, sheet: &Sheet) -> Result<Charge, Refusal>
+    ensures { λ r. ⌜ r ≡ charge-answer (M·RiskModule .tree (now («module» .entry))) (now (sheet .entry)) (charged (M·RiskModule .tree (now («module» .entry))) (now (sheet .entry))) ⌝ }
+{
+    price(module, sheet)
 }
 
 // At every tree over lawful tables, some floor and some ceiling are as close as its roundings allow.
