@@ -4,3 +4,4 @@ pub mod Close
 pub mod Charging
 pub mod Answering
 pub mod Rooting
+pub mod Plainly

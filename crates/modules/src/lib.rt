@@ -13,6 +13,8 @@ mod sheet;
 mod sum;
 
 pub use answer::Charge;
+pub use answer::ChargeDebug;
+pub use answer::ChargePartialEq;
 pub use branches::Branches;
 pub use branches::End;
 pub use branches::EndBranches;
@@ -41,5 +43,7 @@ pub use root::Root;
 pub use root::RootModule;
 pub use sheet::LINES;
 pub use sheet::Sheet;
+pub use sheet::SheetDebug;
+pub use sheet::SheetPartialEq;
 pub use sum::Sum;
 pub use sum::SumModule;

@@ -26,23 +26,16 @@ pub trait PlainBranches: Branches {
     law plain: { (b : Self) (s : Page) → Self·Branches .values b s ≡ charged-all (Self·Branches .forest b) s };
 }
 
-pub impl PlainBranches for End as EndPlain {
-}
+pub impl PlainBranches for End as EndPlain {}
 
-pub impl<H: PlainModule, T: PlainBranches> PlainBranches for (H, T) as PairPlain {
-}
+pub impl<H: PlainModule, T: PlainBranches> PlainBranches for (H, T) as PairPlain {}
 
-pub impl PlainModule for Line as LinePlain {
-}
+pub impl PlainModule for Line as LinePlain {}
 
-pub impl<B: PlainBranches> PlainModule for Sum<B> as SumPlain {
-}
+pub impl<B: PlainBranches> PlainModule for Sum<B> as SumPlain {}
 
-pub impl<A: PlainModule, B: PlainModule> PlainModule for Greater<A, B> as GreaterPlain {
-}
+pub impl<A: PlainModule, B: PlainModule> PlainModule for Greater<A, B> as GreaterPlain {}
 
-pub impl<B: PlainBranches> PlainModule for Root<B> as RootPlain {
-}
+pub impl<B: PlainBranches> PlainModule for Root<B> as RootPlain {}
 
-pub impl<A: PlainModule, B: PlainModule> PlainModule for Choice<A, B> as ChoicePlain {
-}
+pub impl<A: PlainModule, B: PlainModule> PlainModule for Choice<A, B> as ChoicePlain {}

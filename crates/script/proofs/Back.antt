@@ -1,7 +1,7 @@
 -- Statements that are written out plainly are the meaning of that text.
 use mathlib.Core.Path.{_≡_, refl, sym, ap, _∙_}
 use mathlib.Core.Bool.{true, false}
-use mathlib.Core.List.{List, [], _∷_, _++_, map, append-nil}
+use mathlib.Core.List.{List, [], _∷_, _++_, map}
 use Prim.Native.Nat.{ℕ, _+_, _^_, _≤_, _<_, min}
 use native.Mathlib.Omega.{arith}
 use borrow.Author.Needs.{needs}
@@ -23,10 +23,10 @@ use Rattle.script.specs.declared.Fault.the-variants.{Memory, Line}
 use Rattle.script.specs.declared.Statement.{Statement}
 use Rattle.script.specs.declared.words.Mark.{Mark}
 use Rattle.script.specs.declared.words.Mark.the-variants.{LineEnd, Comment, Space}
-use Rattle.script.specs.Meaning.{Said, table, root, table-of, root-of, statement-of, above, line-above, lines-from, meaning, Parsed}
+use Rattle.script.specs.Meaning.{Said, Told, table, root, total, price-standard, table-of, root-of, total-of, above, line-above, lines-from, meaning, Parsed}
 use Rattle.script.specs.Numbers.{largest, written, number-of, both, numbers-of}
 use Rattle.script.specs.Pieces.{is-mark, before, joins, pieces, filled, lines, words}
-use Rattle.script.specs.Plain.{keyword, numbers-in, spaced, plain-line, plain-text, Within, ReadBack}
+use Rattle.script.specs.Plain.{words-in, numbers-in, spaced, plain-line, plain-text, Within, ReadBack}
 use Rattle.script.proofs.Cuts.{filled-some}
 use Rattle.script.proofs.Saturates.{of-some}
 
@@ -54,9 +54,16 @@ free-byte LineEnd b h = ne-eqb b 10 (λ e. omega arith)
 free-byte Comment b h = ne-eqb b 35 (λ e. omega arith)
 free-byte Space b h = or-from _ _ (ne-eqb b 32 (λ e. omega arith)) (or-from _ _ (ne-eqb b 9 (λ e. omega arith)) (ne-eqb b 13 (λ e. omega arith)))
 
-free-digits : (m : Mark) (ds : List ℕ) → allDigits ds ≡ true → Free m ds
-free-digits m [] h = tt
-free-digits m (c ∷ cs) h = let p = tells-allDigits .parts c cs h in (free-byte m c (p .0 .0), free-digits m cs (p .1))
+-- a word that holds no mark: it is of digits and letters
+abbrev Whole : List ℕ → Type 0
+Whole w = (0 < length w) × All (λ b. 48 ≤ b) w
+
+free-word : (m : Mark) (w : List ℕ) → Whole w → Free m w
+free-word m w h = all-weaker _ _ (free-byte m) w (h .1)
+
+high-digits : (ds : List ℕ) → allDigits ds ≡ true → All (λ b. 48 ≤ b) ds
+high-digits [] h = tt
+high-digits (c ∷ cs) h = let p = tells-allDigits .parts c cs h in (p .0 .0, high-digits cs (p .1))
 
 -- `written` reads digits as the library does
 own : Numerals (λ ds. allDigits ds ≡ true) (written 0)
@@ -74,50 +81,48 @@ numbers-decimal : (ns : List ℕ) → All (λ n. n ≤ largest) ns → numbers-o
 numbers-decimal [] h = refl
 numbers-decimal (n ∷ ns) h = ap (λ o. both o (numbers-of (map decimal ns))) (number-decimal n (h .0)) ∙ ap (both (Some n)) (numbers-decimal ns (h .1))
 
--- the digits of a number hold no mark
-free-decimal : (m : Mark) (n : ℕ) → n ≤ largest → Free m (decimal n)
-free-decimal m n h = free-digits m (decimal n) (digits-decimal own n (omega arith))
+whole-decimals : (ns : List ℕ) → All (λ n. n ≤ largest) ns → All Whole (map decimal ns)
+whole-decimals [] h = tt
+whole-decimals (n ∷ ns) h =
+    let small : n < 2 ^ 64 = omega (arith, h .0) in
+    ((decimal-some n small, high-digits (decimal n) (digits-decimal own n small)), whole-decimals ns (h .1))
 
-last-word : (w : List ℕ) → 0 < length w → Free Space w → words w ≡ w ∷ []
-last-word [] some h = absurd (omega arith)
-last-word (b ∷ bs) some h = ap filled (last-piece Space b bs h)
+whole-words : (s : Said) → All (λ n. n ≤ largest) (numbers-in s) → All Whole (words-in s)
+whole-words (table n ns) h = (search needs, whole-decimals (n ∷ ns) h)
+whole-words (root ns) h = (search needs, whole-decimals ns h)
+whole-words (total line amount) h = (search needs, whole-decimals (line ∷ amount ∷ []) h)
+whole-words price-standard h = search needs
 
-words-spaced : (w ns : List ℕ) → 0 < length w → Free Space w → All (λ n. n ≤ largest) ns → words (w ++ spaced ns) ≡ w ∷ map decimal ns
-words-spaced w [] some h small = ap words (append-nil w) ∙ last-word w some h
-words-spaced w (n ∷ ns) some h small =
-    ap filled (piece-ends Space w 32 (decimal n ++ spaced ns) h refl) ∙ filled-some w _ some
-    ∙ ap (λ l. w ∷ l) (words-spaced (decimal n) ns (decimal-some n (omega (arith, small .0))) (free-decimal Space n (small .0)) (small .1))
+last-word : (w : List ℕ) → Whole w → words w ≡ w ∷ []
+last-word [] h = absurd (omega (arith, h .0))
+last-word (b ∷ bs) h = ap filled (last-piece Space b bs (free-word Space (b ∷ bs) h))
 
-free-spaced : (m : Mark) → is-mark m 32 ≡ false → (ns : List ℕ) → All (λ n. n ≤ largest) ns → Free m (spaced ns)
+words-spaced : (ws : List (List ℕ)) → All Whole ws → words (spaced ws) ≡ ws
+words-spaced [] h = refl
+words-spaced (w ∷ []) h = last-word w (h .0)
+words-spaced (w ∷ v ∷ ws) h =
+    ap filled (piece-ends Space w 32 (spaced (v ∷ ws)) (free-word Space w (h .0)) refl) ∙ filled-some w _ (h .0 .0)
+    ∙ ap (λ l. w ∷ l) (words-spaced (v ∷ ws) (h .1))
+
+free-spaced : (m : Mark) → is-mark m 32 ≡ false → (ws : List (List ℕ)) → All Whole ws → Free m (spaced ws)
 free-spaced m e [] h = tt
-free-spaced m e (n ∷ ns) h = (e, all-append _ (decimal n) (spaced ns) (free-decimal m n (h .0)) (free-spaced m e ns (h .1)))
+free-spaced m e (w ∷ []) h = free-word m w (h .0)
+free-spaced m e (w ∷ v ∷ ws) h = all-append _ w (32 ∷ spaced (v ∷ ws)) (free-word m w (h .0)) (e, free-spaced m e (v ∷ ws) (h .1))
 
-high-keyword : (s : Said) → All (λ b. 48 ≤ b) (keyword s)
-high-keyword (table n ns) = search needs
-high-keyword (root ns) = search needs
-
-free-keyword : (m : Mark) (s : Said) → Free m (keyword s)
-free-keyword m s = all-weaker _ _ (free-byte m) (keyword s) (high-keyword s)
-
-free-line : (m : Mark) → is-mark m 32 ≡ false → (s : Said) → All (λ n. n ≤ largest) (numbers-in s) → Free m (plain-line s)
-free-line m e s small = all-append _ (keyword s) (spaced (numbers-in s)) (free-keyword m s) (free-spaced m e (numbers-in s) small)
-
-some-keyword : (s : Said) → 0 < length (keyword s)
-some-keyword (table n ns) = omega arith
-some-keyword (root ns) = omega arith
-
-statement-back : (s : Said) (ws : List (List ℕ)) → numbers-of ws ≡ Some (numbers-in s) → statement-of (keyword s) ws ≡ Ok s
-statement-back (table n ns) ws e = ap table-of e
-statement-back (root ns) ws e = ap root-of e
+statement-back : (k : ℕ) (rest : Told) (s : Said) → All (λ n. n ≤ largest) (numbers-in s) → line-above k (words-in s) rest ≡ above k (Ok s) rest
+statement-back k rest (table n ns) h = ap (λ o. above k (table-of o) rest) (numbers-decimal (n ∷ ns) h)
+statement-back k rest (root ns) h = ap (λ o. above k (root-of o) rest) (numbers-decimal ns h)
+statement-back k rest (total line amount) h = ap (λ o. above k (total-of o) rest) (numbers-decimal (line ∷ amount ∷ []) h)
+statement-back k rest price-standard h = refl
 
 lines-back : (k : ℕ) (ss : List Said) → Within ss → lines-from k (lines (plain-text ss)) ≡ Ok ss
 lines-back k [] h = refl
 lines-back k (s ∷ ss) h =
-    let small = h .0 in
-    let content = ap words (before-free Comment (plain-line s) (free-line Comment refl s small)) ∙ words-spaced (keyword s) (numbers-in s) (some-keyword s) (free-keyword Space s) small in
-    ap (lines-from k) (piece-ends LineEnd (plain-line s) 10 (plain-text ss) (free-line LineEnd refl s small) refl)
+    let whole = whole-words s (h .0) in
+    let content = ap words (before-free Comment (plain-line s) (free-spaced Comment refl (words-in s) whole)) ∙ words-spaced (words-in s) whole in
+    ap (lines-from k) (piece-ends LineEnd (plain-line s) 10 (plain-text ss) (free-spaced LineEnd refl (words-in s) whole) refl)
     ∙ ap (λ ws. line-above k ws (lines-from (k + 1) (lines (plain-text ss)))) content
-    ∙ ap (λ o. above k o (lines-from (k + 1) (lines (plain-text ss)))) (statement-back s (map decimal (numbers-in s)) (numbers-decimal (numbers-in s) small))
+    ∙ statement-back k _ s (h .0)
     ∙ ap (above k (Ok s)) (lines-back (k + 1) ss (h .1))
 
 pub read-back : (text : List ℕ) (r : Result (Vec Statement Global) Fault) → Parsed text r → ReadBack text r

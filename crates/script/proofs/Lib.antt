@@ -4,3 +4,4 @@ pub mod Behind
 pub mod Saturates
 pub mod Turns
 pub mod Back
+pub mod Same

@@ -1,4 +1,4 @@
--- Statements written out plainly: one to a line, with one space before each number.
+-- Statements written out plainly: one to a line, with one space between two words.
 use mathlib.Core.Path.{_≡_}
 use mathlib.Core.List.{List, [], _∷_, _++_, map}
 use Prim.Native.Nat.{ℕ, _≤_}
@@ -13,27 +13,32 @@ use Rattle.std.specs.shelf.Lists.{All}
 use Rattle.script.specs.declared.Fault.{Fault}
 use Rattle.script.specs.declared.Fault.the-variants.{Memory, Line}
 use Rattle.script.specs.declared.Statement.{Statement}
-use Rattle.script.specs.Meaning.{Said, table, root, said}
+use Rattle.script.specs.Meaning.{Said, table, root, total, price-standard, said}
 use Rattle.script.specs.Numbers.{largest}
 
--- the first word of a statement's line
-abbrev pub keyword : Said → List ℕ
-keyword (table n ns) = codes "table"
-keyword (root ns) = codes "root"
+-- the words of a statement's line
+abbrev pub words-in : Said → List (List ℕ)
+words-in (table n ns) = codes "table" ∷ map decimal (n ∷ ns)
+words-in (root ns) = codes "root" ∷ map decimal ns
+words-in (total line amount) = codes "total" ∷ map decimal (line ∷ amount ∷ [])
+words-in price-standard = codes "price" ∷ codes "standard" ∷ []
 
--- the numbers behind it, in order
+-- the numbers among them, in order
 abbrev pub numbers-in : Said → List ℕ
 numbers-in (table n ns) = n ∷ ns
 numbers-in (root ns) = ns
+numbers-in (total line amount) = line ∷ amount ∷ []
+numbers-in price-standard = []
 
--- each number in decimal, behind a space
-abbrev pub spaced : List ℕ → List ℕ
+-- words with one space between two
+abbrev pub spaced : List (List ℕ) → List ℕ
 spaced [] = []
-spaced (n ∷ ns) = 32 ∷ (decimal n ++ spaced ns)
+spaced (w ∷ []) = w
+spaced (w ∷ v ∷ ws) = w ++ 32 ∷ spaced (v ∷ ws)
 
 -- the line of one statement, without its end
 abbrev pub plain-line : Said → List ℕ
-plain-line s = keyword s ++ spaced (numbers-in s)
+plain-line s = spaced (words-in s)
 
 -- a line for each statement
 abbrev pub plain-text : List Said → List ℕ

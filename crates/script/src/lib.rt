@@ -1,9 +1,9 @@
-// Parses the program's input: its tables and its root.
+// Parses the program's input: its tables, its root, its totals and its prices.
 mod numbers;
 mod words;
 
 ghost use mathlib.Core.Path.{_≡_};
-ghost use Rattle.script.specs.Meaning.{table-of, root-of, statement-of, outcome, Parsed};
+ghost use Rattle.script.specs.Meaning.{table-of, root-of, total-of, price-of, statement-of, outcome, Parsed};
 ghost use Rattle.script.specs.Numbers.{numbers-of};
 ghost use Rattle.script.specs.Pieces.{words};
 ghost use Rattle.script.specs.Plain.{ReadBack};
@@ -25,6 +25,8 @@ use words::next_word;
 pub enum Statement {
     Table { size: u64, entries: Vec<u64> },
     Root { charges: Vec<u64> },
+    Total { line: u64, amount: u64 },
+    PriceStandard,
 }
 
 #[derive(Clone, Copy, PartialEq, Eq, Debug)]
@@ -32,6 +34,8 @@ pub enum Misread {
     UnknownStatement,
     SizeMissing,
     NotANumber,
+    TotalParts,
+    UnknownTree,
 }
 
 impl Misread {
@@ -43,6 +47,8 @@ impl Misread {
             Misread::UnknownStatement => "unknown statement",
             Misread::SizeMissing => "the table has no size",
             Misread::NotANumber => "not a number",
+            Misread::TotalParts => "a total has a line and an amount",
+            Misread::UnknownTree => "unknown tree",
         }
     }
 }
@@ -125,6 +131,10 @@ impl Statement {
             Statement::table(heap, text)
         } else if word == b"root" {
             Statement::root(heap, text)
+        } else if word == b"total" {
+            Statement::total(heap, text)
+        } else if word == b"price" {
+            Ok(Statement::price(text))
         } else {
             Ok(Err(Misread::UnknownStatement))
         }
@@ -154,6 +164,36 @@ impl Statement {
             return Ok(Err(Misread::NotANumber));
         };
         Ok(Ok(Statement::Root { charges }))
+    }
+
+    // The total whose line and amount are the two numbers of a text.
+    fn total(heap: Global, text: &[u8]) -> Result<Reading, AllocError>
+        ensures { λ r. ⌜ made r (λ s. outcome s ≡ total-of (numbers-of (words (now (text .entry))))) ⌝ }
+    {
+        let Some(parts) = numbers(heap, text)? else {
+            return Ok(Err(Misread::NotANumber));
+        };
+        let [line, amount] = parts.as_slice() else {
+            return Ok(Err(Misread::TotalParts));
+        };
+        Ok(Ok(Statement::Total {
+            line: *line,
+            amount: *amount,
+        }))
+    }
+
+    // The price by the tree that the only word of a text names.
+    fn price(text: &[u8]) -> Reading
+        ensures { λ r. ⌜ outcome r ≡ price-of (words (now (text .entry))) ⌝ }
+    {
+        let Some((tree, rest)) = next_word(text) else {
+            return Err(Misread::UnknownTree);
+        };
+        if tree == b"standard" && next_word(rest).is_none() {
+            Ok(Statement::PriceStandard)
+        } else {
+            Err(Misread::UnknownTree)
+        }
     }
 }
 
@@ -194,6 +234,11 @@ mod tests {
             heap,
             b"root 7 9 # two\nroot\n",
             "[Root { charges: [7, 9] }, Root { charges: [] }]",
+        )?;
+        reads(
+            heap,
+            b"total 14 1000000\nprice standard",
+            "[Total { line: 14, amount: 1000000 }, PriceStandard]",
         )
     }
 
@@ -223,6 +268,14 @@ mod tests {
         )?;
         fails(heap, b"root 1\ntable # 4", "line 2: the table has no size")?;
         fails(heap, b"table 4x\n", "line 1: not a number")?;
-        fails(heap, b"root 1 2 -3", "line 1: not a number")
+        fails(heap, b"root 1 2 -3", "line 1: not a number")?;
+        let parts = "line 1: a total has a line and an amount";
+        fails(heap, b"total 1", parts)?;
+        fails(heap, b"total 1 2 3", parts)?;
+        fails(heap, b"total x 2 3", "line 1: not a number")?;
+        let tree = "line 1: unknown tree";
+        fails(heap, b"price", tree)?;
+        fails(heap, b"price other", tree)?;
+        fails(heap, b"price standard 2", tree)
     }
 }

@@ -1,12 +1,15 @@
-// Runs statements, each under the table that the ones before it left.
+// Runs statements, each under the table and the sheet that the ones before it left.
 ghost use mathlib.Core.Path.{_≡_};
 ghost use Rattle.std.specs.Of.Vec.{vec-items};
 ghost use Rattle.std.specs.Vec.{made};
 ghost use mathlib.Core.List.{map};
 ghost use Rattle.script.specs.Meaning.{said};
-ghost use Rattle.session.specs.Runs.{Narrowed, TableAnswered, RootAnswered, Answered, Started, TextAnswered};
+ghost use Rattle.session.specs.Runs.{Narrowed, TableAnswered, RootAnswered, TotalAnswered, Answered, Started, TextAnswered};
 use crate::Answer;
+use crate::State;
+use crate::price::answer_price;
 use correlation::Table;
+use modules::Sheet;
 use refusals::Refusal;
 use script::Fault;
 use script::FaultFromAlloc;
@@ -17,6 +20,9 @@ use std::alloc::Global;
 
 // What a charge may be at most.
 const LARGEST: u64 = 0xffff_ffff;
+
+// What the line totals together may be at most, in ten-thousandths of a unit.
+const MOST_TOTAL: u64 = 2_000_000_000_000;
 
 // The numbers at 32 bits, where each has no more.
 fn narrowed(heap: Global, numbers: &[u64]) -> Result<Option<Vec<u32>>, AllocError>
@@ -67,26 +73,50 @@ fn answer_root(heap: Global, table: &Table, charges: &[u64]) -> Result<Answer, A
     )
 }
 
-// Answers one statement.
-fn answer_one(heap: Global, table: &mut Table, statement: &Statement) -> Result<Answer, AllocError>
-    ensures { λ r. ⌜ made r (Answered (said (now (statement .entry))) (now (table .entry)) (now (table .exit))) ⌝ }
+// Sets the exact total of a line.
+fn answer_total(sheet: &mut Sheet, line: u64, total: u64) -> Answer
+    ensures { λ r. ⌜ TotalAnswered line total (now (sheet .entry)) (now (sheet .exit)) r ⌝ }
 {
-    match statement {
-        Statement::Table { size, entries } => answer_table(heap, table, *size, entries.as_slice()),
-        Statement::Root { charges } => answer_root(heap, table, charges.as_slice()),
+    if total > MOST_TOTAL {
+        return Answer::TotalOutOfRange;
+    }
+    match sheet.set_total(line as usize, total) {
+        Ok(()) => Answer::TotalSet(line, total),
+        Err(refusal) => Answer::TotalRefused(refusal),
     }
 }
 
-// Answers statements in order, from a table of one branch.
+// Answers one statement.
+fn answer_one(heap: Global, state: &mut State, statement: &Statement) -> Result<Answer, AllocError>
+    ensures { λ r. ⌜ made r (Answered (said (now (statement .entry))) (now (state .entry)) (now (state .exit))) ⌝ }
+{
+    match statement {
+        Statement::Table { size, entries } => answer_table(
+            heap,
+            &mut state.table,
+            *size,
+            entries.as_slice(),
+        ),
+        Statement::Root { charges } => answer_root(heap, &state.table, charges.as_slice()),
+        Statement::Total { line, amount } => Ok(answer_total(&mut state.sheet, *line, *amount)),
+        Statement::PriceStandard => Ok(answer_price(&state.sheet)),
+    }
+}
+
+// Answers statements in order, from a table of one branch and a blank sheet.
 fn run(heap: Global, statements: &[Statement]) -> Result<Vec<Answer>, AllocError>
     ensures { λ r. ⌜ made r (λ v. Started (map said (now (statements .entry))) (vec-items v)) ⌝ }
 {
-    let Ok(mut table) = Table::new(1) else {
+    let Ok(table) = Table::new(1) else {
         unreachable()
+    };
+    let mut state = State {
+        table,
+        sheet: Sheet::new(),
     };
     let mut answers = Vec::new(heap);
     for statement in statements {
-        answers.push(answer_one(heap, &mut table, statement)?)?;
+        answers.push(answer_one(heap, &mut state, statement)?)?;
     }
     Ok(answers)
 }

@@ -11,3 +11,9 @@ returns-in-SizeMissing c = ap misread-text (sym (c .in-SizeMissing .is))
 
 pub returns-in-NotANumber : need.returns-in-NotANumber
 returns-in-NotANumber c = ap misread-text (sym (c .in-NotANumber .is))
+
+pub returns-in-TotalParts : need.returns-in-TotalParts
+returns-in-TotalParts c = ap misread-text (sym (c .in-TotalParts .is))
+
+pub returns-in-UnknownTree : need.returns-in-UnknownTree
+returns-in-UnknownTree c = ap misread-text (sym (c .in-UnknownTree .is))

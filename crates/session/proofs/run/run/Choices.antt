@@ -6,4 +6,4 @@ use Rattle.session.specs.Runs.{Ran}
 use Rattle.session.proofs.run.run.Given as given
 
 abbrev pub Inv-loop-statement : given.InvT-loop-statement
-Inv-loop-statement l = Ran (map said (take (l .statement-index) (l .statements))) (l .entry .table) (vec-items (l .answers)) (l .table)
+Inv-loop-statement l = Ran (map said (take (l .statement-index) (l .statements))) (l .entry .state) (vec-items (l .answers)) (l .state)

@@ -22,3 +22,15 @@ returns-in-RootRefused g c plain ok = written _ _ _ (c .in-RootRefused .is) (c .
 
 pub returns-in-ChargeOutOfRange : need.returns-in-ChargeOutOfRange
 returns-in-ChargeOutOfRange g c plain ok = written _ _ _ (c .in-ChargeOutOfRange .is) (c .write-str .ensures .prints plain ok)
+
+pub returns-in-TotalRefused : need.returns-in-TotalRefused
+returns-in-TotalRefused g c plain ok = written _ _ _ (c .in-TotalRefused .is) (c .write-in-TotalRefused .ensures .shows plain ok)
+
+pub returns-in-TotalOutOfRange : need.returns-in-TotalOutOfRange
+returns-in-TotalOutOfRange g c plain ok = written _ _ _ (c .in-TotalOutOfRange .is) (c .write-str-in-TotalOutOfRange .ensures .prints plain ok)
+
+pub returns-in-Priced : need.returns-in-Priced
+returns-in-Priced g c plain ok = written _ _ _ (c .in-Priced .is) (c .write-in-Priced .ensures .shows plain ok)
+
+pub returns-in-PriceRefused : need.returns-in-PriceRefused
+returns-in-PriceRefused g c plain ok = written _ _ _ (c .in-PriceRefused .is) (c .write-in-PriceRefused .ensures .shows plain ok)
