@@ -3,6 +3,7 @@ use super::Prudent;
 use super::one_more;
 use crate::PrudentModule;
 use correlation::Table;
+use modules::ChoiceModule;
 use modules::End;
 use modules::EndBranches;
 use modules::Line;
@@ -16,6 +17,8 @@ use modules::price;
 use refusals::Refusal;
 use refusals::RefusalDebug;
 use refusals::RefusalPartialEq;
+use standard::SpreadModule;
+use standard::standard;
 use std::test::*;
 
 // The charge, the gross and the roundings of a module.
@@ -43,6 +46,16 @@ fn under_a_root() -> Result<(), Fail> {
     let branches = (Prudent::new(Line::new(1)?), (Line::new(2)?, End));
     let root = Root::new(Table::new(2)?, branches)?;
     check_eq(priced(&root, &sheet)?, (5, 6, 4))
+}
+
+// 30 units and one more are all that the standard tree has to aggregate.
+// The roundings are its own 20, those of the two lines, and one more.
+#[test]
+fn under_the_standard_tree() -> Result<(), Fail> {
+    let mut sheet = Sheet::new();
+    sheet.set_total(2, 300_000)?;
+    let tree = standard(Prudent::new(Line::new(2)?), Line::new(10)?);
+    check_eq(priced(&tree, &sheet)?, (31, 30, 23))
 }
 
 // A question changes nothing, so it has the same answer again.
