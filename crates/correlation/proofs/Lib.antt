@@ -1,3 +1,4 @@
+-- The lemmas of this crate, by file.
 pub mod Sums
 pub mod Magnify
 pub mod Laws

@@ -1,3 +1,4 @@
+-- The definitions of this crate, by file.
 pub mod Sums
 pub mod Tables
 pub mod Roots

@@ -1,3 +1,4 @@
+-- The lemmas of this crate, by file.
 pub mod Units
 pub mod Lists
 pub mod Close

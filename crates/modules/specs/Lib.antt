@@ -1,3 +1,4 @@
+-- The definitions of this crate, by file.
 pub mod Sheets
 pub mod Trees
 pub mod Bounds

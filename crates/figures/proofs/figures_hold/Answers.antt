@@ -1,3 +1,4 @@
+-- What is left to show of `figures_hold`.
 use mathlib.Core.Path.{refl, ap, _∙_}
 use Rattle.correlation.proofs.Computed.{lawful-by, unlawful-by}
 use Rattle.correlation.specs.Roots.{least-root}

@@ -31,7 +31,8 @@ impl Charges {
 
     // One charge more; where there are as many as there may be, it is passed over.
     pub fn push(&mut self, amount: u32)
-        ensures { λ _. ⌜ (length (charges-of (now (self .entry))) < most-branches → charges-of (now (self .exit)) ≡ charges-of (now (self .entry)) ++ amount ∷ []) ⌝ }
+        ensures more { λ _. ⌜ (length (charges-of (now (self .entry))) < most-branches → charges-of (now (self .exit)) ≡ charges-of (now (self .entry)) ++ amount ∷ []) ⌝ }
+        ensures full { λ _. ⌜ (most-branches ≤ length (charges-of (now (self .entry))) → charges-of (now (self .exit)) ≡ charges-of (now (self .entry))) ⌝ }
     {
         if self.count < BRANCHES {
             self.amounts[self.count] = amount;

@@ -1,3 +1,4 @@
+-- What is left to show of `standard`.
 use mathlib.Core.Path.{_∙_}
 use Rattle.modules.specs.Trees.{line, root, none, more}
 use Rattle.standard.specs.Standard.{top-entries}

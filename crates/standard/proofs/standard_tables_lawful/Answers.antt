@@ -1,3 +1,4 @@
+-- What is left to show of `standard_tables_lawful`.
 use Rattle.standard.proofs.Standing.{tables-lawful}
 use Rattle.standard.proofs.standard_tables_lawful.Needs as need
 

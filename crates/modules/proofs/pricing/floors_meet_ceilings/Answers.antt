@@ -1,3 +1,4 @@
+-- What is left to show of `floors_meet_ceilings`.
 use Rattle.modules.proofs.Close.{close}
 use Rattle.modules.proofs.pricing.floors_meet_ceilings.Needs as need
 

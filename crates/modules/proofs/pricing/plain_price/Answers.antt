@@ -1,3 +1,4 @@
+-- What is left to show of `plain_price`.
 use mathlib.Core.Path.{ap, _∙_}
 use Rattle.modules.specs.Answers.{charge-answer}
 use Rattle.modules.proofs.pricing.plain_price.Needs as need

@@ -1,3 +1,4 @@
+-- What is left to show of `price`.
 use Rattle.modules.proofs.Answering.{answered-within}
 use Rattle.modules.proofs.Close.{close}
 use Rattle.modules.proofs.pricing.price.Needs as need

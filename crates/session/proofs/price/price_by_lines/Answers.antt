@@ -1,3 +1,4 @@
+-- What is left to show of `price_by_lines`.
 use mathlib.Core.Path.{ap, _∙_}
 use Rattle.modules.specs.Answers.{charge-answer}
 use Rattle.modules.specs.Charged.{charged}

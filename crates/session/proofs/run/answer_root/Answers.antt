@@ -1,3 +1,4 @@
+-- What is left to show of `answer_root`.
 use mathlib.Core.Path.{_≡_, ap, sym, subst, _∙_}
 use Rattle.correlation.specs.Answers.{root-answer}
 use Rattle.session.specs.Runs.{Narrowed, RootAnswered}

@@ -1,3 +1,4 @@
+-- What is left to show of `answer_table`.
 use mathlib.Core.Path.{refl, subst}
 use Prim.Native.Nat.{_<_, _^_}
 use native.Mathlib.Omega.{arith}

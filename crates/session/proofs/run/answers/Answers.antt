@@ -1,3 +1,4 @@
+-- What is left to show of `answers`.
 use mathlib.Core.Path.{ap, subst, sym}
 use mathlib.Core.List.{map}
 use Rattle.std.specs.Of.Vec.{vec-items}

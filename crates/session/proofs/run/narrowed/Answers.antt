@@ -1,3 +1,4 @@
+-- What is left to show of `narrowed`.
 use mathlib.Core.Path.{ap, sym, subst, _∙_}
 use mathlib.Core.List.{_++_, _∷_, []}
 use Prim.Native.Nat.{_<_, _^_}

@@ -1,3 +1,4 @@
+-- What the loop of `narrowed` keeps.
 use mathlib.Core.Path.{_≡_}
 use lib.ListN.{take}
 use Rattle.std.specs.Of.Vec.{vec-items}

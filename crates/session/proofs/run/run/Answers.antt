@@ -1,3 +1,4 @@
+-- What is left to show of `run`.
 use mathlib.Core.Path.{ap, subst}
 use mathlib.Core.List.{map}
 use Rattle.std.proofs.shelf.Lists.{take-all}

@@ -1,3 +1,4 @@
+-- What the loop of `run` keeps.
 use mathlib.Core.List.{map}
 use lib.ListN.{take}
 use Rattle.std.specs.Of.Vec.{vec-items}

@@ -1,3 +1,4 @@
+-- What is left to show of `Table::entry`.
 use mathlib.Core.Path.{_≡_}
 use native.Mathlib.Omega.{arith}
 use lib.ListN.{length}

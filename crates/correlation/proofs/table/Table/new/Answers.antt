@@ -1,3 +1,4 @@
+-- What is left to show of `Table::new`.
 use mathlib.Core.Path.{refl}
 use native.Mathlib.Omega.{arith}
 use Rattle.correlation.specs.Tables.{Branches}

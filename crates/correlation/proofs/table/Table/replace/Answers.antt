@@ -1,3 +1,4 @@
+-- What is left to show of `Table::replace`.
 use mathlib.Core.Path.{_≡_, ap, sym, _∙_}
 use native.Mathlib.Omega.{arith}
 use Prim.Native.Nat.{_≤_, _-_}

@@ -1,3 +1,4 @@
+-- What is left to show of `Table::root`.
 use mathlib.Core.Path.{_≡_, ap, sym, _∙_}
 use native.Mathlib.Omega.{arith}
 use lib.Dec.{eqb}

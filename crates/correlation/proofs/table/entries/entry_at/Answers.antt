@@ -1,3 +1,4 @@
+-- What is left to show of `entry_at`.
 use mathlib.Core.Path.{sym, ap, _∙_}
 use native.Mathlib.Omega.{arith}
 use Prim.Native.Nat.{_+_, _-_}

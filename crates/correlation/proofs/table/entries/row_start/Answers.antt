@@ -1,3 +1,4 @@
+-- What is left to show of `row_start`.
 use Rattle.correlation.proofs.Places.{row-start-is, row-start-room}
 use Rattle.correlation.proofs.table.entries.row_start.Needs as need
 

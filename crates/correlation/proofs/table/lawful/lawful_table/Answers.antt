@@ -1,3 +1,4 @@
+-- What is left to show of `lawful_table`.
 use mathlib.Core.Path.{_≡_, refl, sym, _∙_}
 use mathlib.Core.Bool.{true}
 use native.Mathlib.Omega.{arith}

@@ -1,3 +1,4 @@
+-- What the loop of `narrowed` keeps.
 use mathlib.Core.Path.{_≡_}
 use lib.ListN.{length, take}
 use Rattle.correlation.proofs.table.lawful.narrowed.Given as given

@@ -1,3 +1,4 @@
+-- What is left to show of `row_excess`.
 use mathlib.Core.Path.{sym, ap₂, _∙_}
 use native.Mathlib.Omega.{arith}
 use Prim.Native.Nat.{_+_}

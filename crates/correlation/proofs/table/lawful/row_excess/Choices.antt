@@ -1,3 +1,4 @@
+-- What the loop of `row_excess` keeps.
 use mathlib.Core.Path.{_≡_}
 use mathlib.Core.Bool.{cond}
 use Prim.Native.Nat.{_-_, _*_, _≤_}

@@ -1,3 +1,4 @@
+-- What the loop of `row_holds` keeps.
 use Prim.Native.Nat.{ℕ, _+_, _*_, _≤_, _<_}
 use Rattle.correlation.specs.Tables.{entry, row-excess}
 use Rattle.correlation.proofs.table.lawful.row_holds.Given as given

@@ -1,3 +1,4 @@
+-- What is left to show of `rows_hold`.
 use borrow.Author.Count.{below-more}
 use Rattle.correlation.proofs.table.lawful.rows_hold.Needs as need
 

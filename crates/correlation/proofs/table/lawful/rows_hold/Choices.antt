@@ -1,3 +1,4 @@
+-- What the loop of `rows_hold` keeps.
 use Prim.Native.Nat.{ℕ, _+_, _*_, _≤_, _<_}
 use Rattle.correlation.specs.Tables.{entry, row-excess}
 use Rattle.correlation.proofs.table.lawful.rows_hold.Given as given

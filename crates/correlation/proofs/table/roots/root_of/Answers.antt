@@ -1,3 +1,4 @@
+-- What is left to show of `root_of`.
 use Rattle.correlation.proofs.Laws.{root-exact, root-above}
 use Rattle.correlation.proofs.table.roots.root_of.Needs as need
 

@@ -1,3 +1,4 @@
+-- What is left to show of `row_mirrored`.
 use native.Mathlib.Omega.{arith}
 use Rattle.std.proofs.shelf.Bits.{mul-add-lt}
 use Rattle.correlation.proofs.table.square.row_mirrored.Needs as need

@@ -1,3 +1,4 @@
+-- What is left to show of `upper`.
 use mathlib.Core.Path.{_≡_, ap, subst, sym}
 use native.Mathlib.Omega.{arith}
 use native.Mathlib.Numerals.{add-one}

@@ -1,3 +1,4 @@
+-- What the loop of `upper` keeps.
 use mathlib.Core.Path.{_≡_}
 use lib.ListN.{length}
 use Rattle.correlation.specs.Tables.{row-start, Copied}

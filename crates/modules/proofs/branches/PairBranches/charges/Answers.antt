@@ -1,3 +1,4 @@
+-- What is left to show of `PairBranches::charges`.
 use Rattle.modules.specs.Trees.{sum, more, gross-all, roundings-all}
 use Rattle.modules.specs.Gathered.{charges-of}
 use Rattle.modules.proofs.Answering.{refused-gross, made-always, added-small, added-is, gathered-is}
@@ -18,7 +19,7 @@ returns-in-Ok-charges g c =
     let s = c .args .sheet .now in
     record {
       answer = added-is (g .H·RiskModule .tree h) (g .T·Branches .forest t) s (g .H·RiskModule .value h s) (g .T·Branches .values t s) (c .in-Ok .first) (c .in-Ok-charges .rest) (c .in-Ok .ensures tt) (c .in-Ok-charges .ensures tt .answer) (c .added .result) (c .added .ensures);
-      gathered = made-always (c .added .result) _ (gathered-is (g .H·RiskModule .tree h) (g .T·Branches .forest t) s (g .H·RiskModule .value h s) (g .T·Branches .values t s) (c .in-Ok .first) (c .in-Ok-charges .rest) (c .in-Ok .ensures tt) (c .in-Ok-charges .ensures tt .answer) (charges-of (c .args .list .now)) (charges-of (c .push .last .self)) (charges-of (c .charges .last .list)) (c .push .ensures) (c .in-Ok-charges .ensures tt .gathered));
+      gathered = made-always (c .added .result) _ (gathered-is (g .H·RiskModule .tree h) (g .T·Branches .forest t) s (g .H·RiskModule .value h s) (g .T·Branches .values t s) (c .in-Ok .first) (c .in-Ok-charges .rest) (c .in-Ok .ensures tt) (c .in-Ok-charges .ensures tt .answer) (charges-of (c .args .list .now)) (charges-of (c .push .last .self)) (charges-of (c .charges .last .list)) (c .push .ensures .more) (c .in-Ok-charges .ensures tt .gathered));
     }
 
 pub returns-in-Err : need.returns-in-Err

@@ -1,3 +1,4 @@
+-- What is left to show of `GreaterModule::charge`.
 use Rattle.modules.specs.Gathered.{charges-of}
 use Rattle.modules.proofs.Answering.{greater-charge}
 use Rattle.modules.proofs.greater.GreaterModule.charge.Needs as need

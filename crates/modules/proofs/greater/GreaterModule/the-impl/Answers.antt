@@ -1,3 +1,4 @@
+-- The laws of `GreaterModule`.
 use Rattle.modules.proofs.Charging.{greater-bounded}
 use Rattle.modules.proofs.greater.GreaterModule.the-impl.Needs as need
 

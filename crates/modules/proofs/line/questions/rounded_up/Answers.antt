@@ -1,3 +1,4 @@
+-- What is left to show of `rounded_up`.
 use native.Mathlib.Omega.{arith}
 use mathlib.Core.Path.{sym, subst}
 use Prim.Native.Nat.{_≤_, _*_}

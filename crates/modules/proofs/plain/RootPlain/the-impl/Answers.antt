@@ -1,3 +1,4 @@
+-- The laws of `RootPlain`.
 use Rattle.modules.proofs.Rooting.{root-charged}
 use Rattle.modules.proofs.plain.RootPlain.the-impl.Needs as need
 

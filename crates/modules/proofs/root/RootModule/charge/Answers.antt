@@ -1,3 +1,4 @@
+-- What is left to show of `RootModule::charge`.
 use mathlib.Core.Path.{sym}
 use Rattle.modules.specs.Gathered.{charges-of}
 use Rattle.modules.proofs.Rooting.{not-refused, root-amount, root-charge}

@@ -1,3 +1,4 @@
+-- The laws of `RootModule`.
 use Rattle.modules.proofs.Rooting.{root-tree-tabled, root-tree-bounded}
 use Rattle.modules.proofs.root.RootModule.the-impl.Needs as need
 

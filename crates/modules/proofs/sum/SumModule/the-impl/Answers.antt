@@ -1,3 +1,4 @@
+-- The laws of `SumModule`.
 use Rattle.modules.proofs.Charging.{sum-bounded}
 use Rattle.modules.proofs.sum.SumModule.the-impl.Needs as need
 

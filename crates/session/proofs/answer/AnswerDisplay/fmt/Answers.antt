@@ -1,3 +1,4 @@
+-- What is left to show of `AnswerDisplay::fmt`.
 use mathlib.Core.Path.{_≡_, sym, subst}
 use mathlib.Core.List.{List}
 use Prim.Native.Nat.{ℕ}

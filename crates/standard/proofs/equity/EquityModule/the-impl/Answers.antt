@@ -1,3 +1,4 @@
+-- The laws of `EquityModule`.
 use Rattle.standard.specs.Standard.{equity-tree}
 use Rattle.modules.proofs.Plainly.{charged-bounded}
 use Rattle.standard.proofs.Standing.{equity-tabled}

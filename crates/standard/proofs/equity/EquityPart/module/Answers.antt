@@ -1,3 +1,4 @@
+-- What is left to show of `EquityPart::module`.
 use Rattle.standard.proofs.Standing.{tables-lawful}
 use Rattle.standard.proofs.equity.EquityPart.module.Needs as need
 

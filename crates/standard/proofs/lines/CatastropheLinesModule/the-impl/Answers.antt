@@ -1,3 +1,4 @@
+-- The laws of `CatastropheLinesModule`.
 use Rattle.modules.proofs.Plainly.{charged-bounded}
 use Rattle.standard.specs.Standard.{catastrophe-lines}
 use Rattle.standard.proofs.lines.CatastropheLinesModule.the-impl.Needs as need

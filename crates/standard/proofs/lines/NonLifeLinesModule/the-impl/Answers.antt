@@ -1,3 +1,4 @@
+-- The laws of `NonLifeLinesModule`.
 use Rattle.modules.proofs.Plainly.{charged-bounded}
 use Rattle.standard.specs.Standard.{non-life-lines}
 use Rattle.standard.proofs.lines.NonLifeLinesModule.the-impl.Needs as need

@@ -1,3 +1,4 @@
+-- The laws of `SpreadModule`.
 use Rattle.modules.specs.Bounds.{Tabled}
 use Rattle.standard.specs.Parts.{spread-of}
 use Rattle.standard.specs.declared.spread.Spread.{Spread}

@@ -1,3 +1,4 @@
+-- What is left to show of `SpreadPart::module`.
 use mathlib.Core.Path.{_≡_, sym, ap, _∙_}
 use mathlib.Core.List.{List}
 use Prim.Native.Nat.{ℕ}

@@ -1,3 +1,4 @@
+-- The laws of `ChoiceModule`.
 use Rattle.modules.proofs.Charging.{choice-bounded}
 use Rattle.modules.proofs.choice.questions.ChoiceModule.the-impl.Needs as need
 

@@ -1,3 +1,4 @@
+-- The laws of `LineModule`.
 use Rattle.modules.proofs.Charging.{line-bounded}
 use Rattle.modules.proofs.line.questions.LineModule.the-impl.Needs as need
 
