@@ -1,4 +1,6 @@
 // Correlation tables that are always lawful, and the root of charges under one.
+#![tactic(auto)]
+
 mod table;
 
 pub use table::{BRANCHES, Table};

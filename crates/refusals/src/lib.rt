@@ -1,4 +1,6 @@
 // Every refusal of the solvency book: what is wrong, its number, and for words the place.
+#![tactic(auto)]
+
 ghost use Rattle.std.specs.Prelude.{◌≡◌, Some};
 ghost use Rattle.refusals.specs.Numbers.{number_of, place_of, meaning_of, told};
 

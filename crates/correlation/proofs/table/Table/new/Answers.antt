@@ -4,11 +4,11 @@ use Rattle.correlation.specs.Tables.{Branches}
 use Rattle.correlation.proofs.Lawful.{zeros_entry, zeros_lawful}
 use Rattle.correlation.proofs.table.Table.new.Goals as goal
 
-pub invariant-of-result : goal.invariant-of-result
-invariant-of-result c =
+pub invariant_of-result : goal.invariant_of-result
+invariant_of-result c =
     let b : Branches c.args.size = omega arith in
     let law = zeros_lawful 28 c.args.size b in
-    (b, (law.range, (law.diagonal, (law.symmetric, (law.rows, tt)))))
+    record { branches = b; range = law.range; diagonal = law.diagonal; symmetric = law.symmetric; rows = law.rows }
 
 pub returns : goal.returns
 returns c = (omega arith, record { size = refl; entries = λ i j w. zeros_entry 28 c.args.size i j })

@@ -15,14 +15,14 @@ laws t = root_laws (size_of t) (entry_of t) (table_lawful t)
 pub returns-then-charges-self : goal.returns-then-charges-self
 returns-then-charges-self c = record { value = sym (cond-false _ _ _ (ne_eqb _ _ c.if-charges-self.true)); laws = laws c.args.self.now }
 
-pub form-of-requires : goal.form-of-requires
-form-of-requires c =
+pub form_of-requires : goal.form_of-requires
+form_of-requires c =
     let long : length c.args.self.now.above ≡ 28 = search rules in
     let few = above_count_few c.args.self.now.size c.args.self.now.branches.1 in
     search rules
 
 pub returns : goal.returns
 returns c = record {
-  value = ap Ok (c.root_of.ensures ∙ ap least_root c.form-of.ensures.value) ∙ sym (cond-true _ _ _ (eq-eqb _ _ c.if-charges-self.false));
+  value = ap Ok (c.root_of.ensures ∙ ap least_root c.form_of.ensures.value) ∙ sym (cond-true _ _ _ (eq-eqb _ _ c.if-charges-self.false));
   laws = laws c.args.self.now;
 }

@@ -3,17 +3,17 @@ use Rattle.std.proofs.Common.{◌≡◌, ◌+◌, ◌-◌, get_or, sym, ap, ◌�
 use Rattle.correlation.specs.Tables.{place, start_of_row}
 use Rattle.correlation.proofs.Places.{above_count_few, place_of_two, entry_off}
 use Rattle.correlation.proofs.table.entries.entry_at.Goals as goal
-use Rattle.correlation.proofs.table.entries.entry_at.Goals.{After-row-start}
+use Rattle.correlation.proofs.table.entries.entry_at.Goals.{After-row_start}
 
 -- the index is the entry's place
-at_place : (c : After-row-start) → c.row_start.result + (c.max-after.result - c.min-before.result - 1) ≡ place c.args.size (Prim.Native.Nat.min c.args.i c.args.j) (Prim.Native.Nat.max c.args.i c.args.j)
+at_place : (c : After-row_start) → c.row_start.result + (c.max-after.result - c.min-before.result - 1) ≡ place c.args.size (Prim.Native.Nat.min c.args.i c.args.j) (Prim.Native.Nat.max c.args.i c.args.j)
 at_place c = omega (arith, ap (start_of_row c.args.size) c.min-before.ensures, c.row_start.ensures, c.min-before.ensures, c.max-after.ensures)
 
-pub overflow-add-result : goal.overflow-add-result
-overflow-add-result c = omega (arith, at_place c, place_of_two c.args.size c.args.i c.args.j c.requires.first c.requires.second c.if-i-j.false, above_count_few c.args.size c.requires.few)
+pub overflow_add-result : goal.overflow_add-result
+overflow_add-result c = omega (arith, at_place c, place_of_two c.args.size c.args.i c.args.j c.requires.first c.requires.second c.if-i-j.false, above_count_few c.args.size c.requires.few)
 
-pub bounds-above-row-start : goal.bounds-above-row-start
-bounds-above-row-start c = omega (arith, at_place (goal.at.bounds-above-row-start c).After-row-start, place_of_two c.args.size c.args.i c.args.j c.requires.first c.requires.second c.if-i-j.false, c.requires.whole)
+pub bounds-above-row_start : goal.bounds-above-row_start
+bounds-above-row_start c = omega (arith, at_place (goal.at.bounds-above-row_start c).After-row_start, place_of_two c.args.size c.args.i c.args.j c.requires.first c.requires.second c.if-i-j.false, c.requires.whole)
 
 pub returns : goal.returns
-returns c = ap (λ k. get_or c.args.above.now k 0) (at_place (goal.at.returns c).After-row-start) ∙ sym (entry_off c.args.size c.args.above.now c.args.i c.args.j c.if-i-j.false)
+returns c = ap (λ k. get_or c.args.above.now k 0) (at_place (goal.at.returns c).After-row_start) ∙ sym (entry_off c.args.size c.args.above.now c.args.i c.args.j c.if-i-j.false)

@@ -2,8 +2,8 @@
 use Rattle.correlation.proofs.Places.{row_start_is, row_start_room}
 use Rattle.correlation.proofs.table.entries.row_start.Goals as goal
 
-pub overflow-sub-result-2 : goal.overflow-sub-result-2
-overflow-sub-result-2 c = row_start_room c.args.size c.args.i c.requires.within
+pub overflow_sub-result-2 : goal.overflow_sub-result-2
+overflow_sub-result-2 c = row_start_room c.args.size c.args.i c.requires.within
 
 pub returns : goal.returns
 returns c = row_start_is c.args.size c.args.i c.requires.within

@@ -10,10 +10,10 @@ use Rattle.correlation.proofs.table.roots.form_of.Goals.{After-from-in-loop-i}
 
 -- a charge times a weighted sum
 product : (c : After-from-in-loop-i) → c.from.result * c.from-in-loop-i.result ≤ 2 ^ 32 * (255 * 2 ^ 32 * 8)
-product c = mul-le _ _ (2 ^ 32) (255 * 2 ^ 32 * 8) (omega (arith, c.from.ensures, c.type-inv.charges c.loop-i.i)) (omega (arith, c.from-in-loop-i.ensures, c.weighted.ensures.bound, c.requires.few))
+product c = mul-le _ _ (2 ^ 32) (255 * 2 ^ 32 * 8) (omega (arith, c.from.ensures, c.type_inv.charges c.loop-i.i)) (omega (arith, c.from-in-loop-i.ensures, c.weighted.ensures.bound, c.requires.few))
 
-pub overflow-add-sum : goal.overflow-add-sum
-overflow-add-sum c = omega (arith, product c, c.loop-i.invariant.1, c.requires.few, c.requires.each)
+pub overflow_add-sum : goal.overflow_add-sum
+overflow_add-sum c = omega (arith, product c, c.loop-i.invariant.1, c.requires.few, c.requires.each)
 
 pub loop-i-preserved : goal.loop-i-preserved
 loop-i-preserved c = (

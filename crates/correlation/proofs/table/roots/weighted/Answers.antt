@@ -7,13 +7,13 @@ use Rattle.correlation.proofs.table.roots.weighted.Goals.{After-from-in-loop-j}
 
 -- an entry times a charge
 product : (c : After-from-in-loop-j) → c.from.result * c.from-in-loop-j.result ≤ 255 * 2 ^ 32
-product c = mul-le _ _ 255 (2 ^ 32) (omega (arith, c.from.ensures, c.entry-at.type-inv)) (omega (arith, c.from-in-loop-j.ensures, c.type-inv.charges c.loop-j.j))
+product c = mul-le _ _ 255 (2 ^ 32) (omega (arith, c.from.ensures, c.entry_at.type_inv)) (omega (arith, c.from-in-loop-j.ensures, c.type_inv.charges c.loop-j.j))
 
-pub overflow-add-sum : goal.overflow-add-sum
-overflow-add-sum c = omega (arith, product c, c.loop-j.invariant.1, c.requires.few, c.requires.each)
+pub overflow_add-sum : goal.overflow_add-sum
+overflow_add-sum c = omega (arith, product c, c.loop-j.invariant.1, c.requires.few, c.requires.each)
 
 pub loop-j-preserved : goal.loop-j-preserved
 loop-j-preserved c = (
-  ap₂ ◌+◌ c.loop-j.invariant.0 (ap₂ ◌*◌ (c.from.ensures ∙ c.entry-at.ensures) c.from-in-loop-j.ensures) ∙ sym (sum_next c.loop-j.j _),
+  ap₂ ◌+◌ c.loop-j.invariant.0 (ap₂ ◌*◌ (c.from.ensures ∙ c.entry_at.ensures) c.from-in-loop-j.ensures) ∙ sym (sum_next c.loop-j.j _),
   omega (arith, product c, c.loop-j.invariant.1),
 )

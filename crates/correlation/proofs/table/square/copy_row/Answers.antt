@@ -17,19 +17,19 @@ located n i j start few e before within = record { is = omega arith; within = pl
 pub bounds-square-i : goal.bounds-square-i
 bounds-square-i c = omega (arith, mul-add-lt c.args.i c.args.size c.loop-j.j c.args.size c.requires.within c.loop-j-test.true)
 
-pub overflow-add-above-in-loop-j : goal.overflow-add-above-in-loop-j
-overflow-add-above-in-loop-j c = omega (arith, located _ _ _ _ c.requires.few c.row-start-start.ensures c.loop-j.auto.j c.loop-j-test.true)
+pub overflow_add-above-in-loop-j : goal.overflow_add-above-in-loop-j
+overflow_add-above-in-loop-j c = omega (arith, located _ _ _ _ c.requires.few c.row_start-start.ensures c.loop-j.auto.j c.loop-j-test.true)
 
-pub offset-bounds-above-start : goal.offset-bounds-above-start
-offset-bounds-above-start c = omega (arith, located _ _ _ _ c.requires.few c.row-start-start.ensures c.loop-j.auto.j c.loop-j-test.true)
+pub offset_bounds-above-start : goal.offset_bounds-above-start
+offset_bounds-above-start c = omega (arith, located _ _ _ _ c.requires.few c.row_start-start.ensures c.loop-j.auto.j c.loop-j-test.true)
 
 pub bounds-above-start : goal.bounds-above-start
 bounds-above-start c =
-    omega (arith, located _ _ _ _ c.requires.few c.row-start-start.ensures c.loop-j.auto.j c.loop-j-test.true, c.requires.room, c.loop-j.auto.above)
+    omega (arith, located _ _ _ _ c.requires.few c.row_start-start.ensures c.loop-j.auto.j c.loop-j-test.true, c.requires.room, c.loop-j.auto.above)
 
 pub loop-j-preserved : goal.loop-j-preserved
 loop-j-preserved c before =
-    let at = located c.args.size c.args.i c.loop-j.j c.row-start-start.result c.requires.few c.row-start-start.ensures c.loop-j.auto.j c.loop-j-test.true in
+    let at = located c.args.size c.args.i c.loop-j.j c.row_start-start.result c.requires.few c.row_start-start.ensures c.loop-j.auto.j c.loop-j-test.true in
     subst (λ k. Copied c.args.size c.args.square.now (set c.loop-j.above k (square_entry c.args.size c.args.square.now c.args.i c.loop-j.j)) (place c.args.size c.args.i (c.loop-j.j + 1)))
     (sym at.is)
     (copied_more c.args.size c.args.square.now c.loop-j.above c.args.i c.loop-j.j (omega arith) c.loop-j-test.true (omega (arith, c.requires.room, c.loop-j.auto.above)) (c.loop-j.invariant before))
