@@ -1,4 +1,6 @@
 // Risk modules: what one stands for, and the kinds that the book brings.
+#![tactic(auto)]
+
 mod answer;
 mod branches;
 mod charges;

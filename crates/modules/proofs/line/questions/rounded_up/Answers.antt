@@ -6,4 +6,4 @@ use Rattle.modules.proofs.line.questions.rounded_up.Goals as goal
 
 pub returns : goal.returns
 unfolding units
-returns c = record { value = omega (arith, c.div-ceil.ensures); least = record { enough = omega (arith, c.div-ceil.ensures); least = λ v h. omega (arith, c.div-ceil.ensures) } }
+returns c = record { value = omega (arith, c.div_ceil.ensures); least = record { enough = omega (arith, c.div_ceil.ensures); least = λ v h. omega (arith, c.div_ceil.ensures) } }
