@@ -1,4 +1,6 @@
 // The standard tree as a risk module, over any non_life and any catastrophe module.
+#![tactic(auto)]
+
 ghost use Rattle.std.specs.Prelude.{◌≡◌};
 ghost use Rattle.standard.specs.Parts.{market_of, standard_of};
 ghost use Rattle.standard.specs.Standard.{TablesLawful, Twenty, market_tree, standard_tree};

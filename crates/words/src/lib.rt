@@ -1,4 +1,6 @@
 // The words that a tree is written in, and a reader that tells the number and the place of the first fault.
+#![tactic(auto)]
+
 mod item;
 mod opening;
 mod reader;

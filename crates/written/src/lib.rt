@@ -1,4 +1,6 @@
 // A written tree as a risk module.
+#![tactic(auto)]
+
 mod charging;
 mod counting;
 mod written;

@@ -2,8 +2,8 @@
 use Rattle.std.proofs.Common.{◌+◌, ◌*◌, length}
 use Rattle.words.proofs.reader.+read_branch_read_branches.Given as goal
 
-abbrev pub decreases-read-branch : goal.decreases-read-branch
-decreases-read-branch l = 2 * length l.words.now
+abbrev pub decreases-read_branch : goal.decreases-read_branch
+decreases-read_branch l = 2 * length l.words.now
 
-abbrev pub decreases-read-branches : goal.decreases-read-branches
-decreases-read-branches l = 2 * length l.words.now + 1
+abbrev pub decreases-read_branches : goal.decreases-read_branches
+decreases-read_branches l = 2 * length l.words.now + 1

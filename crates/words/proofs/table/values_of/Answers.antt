@@ -13,8 +13,8 @@ loop-k-preserved c =
     let room : k < length c.loop-k.all = omega arith in
     let within : k < length c.args.words.now = omega arith in (
       simp length-set c.loop-k.invariant.0,
-      take_more_set c.loop-k.all k c.value-of.result room
-          ∙ (λ i. c.loop-k.invariant.1 i ++ c.value-of.ensures i ∷ [])
+      take_more_set c.loop-k.all k c.value_of.result room
+          ∙ (λ i. c.loop-k.invariant.1 i ++ c.value_of.ensures i ∷ [])
           ∙ sym (ap values (take_more c.args.words.now k 0 within) ∙ values_push _ w),
     )
 

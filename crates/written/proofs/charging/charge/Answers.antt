@@ -22,8 +22,8 @@ pub loop-place-init : goal.loop-place-init
 loop-place-init c =
     (refl, read_few c.args.words.now c.requires.reads, le_refl 512, sym (at_drop_all (λ l. charged_all (forest_of l) c.args.sheet.now) c.args.words.now (length c.args.words.now) (le_refl _)))
 
-pub charge-at-requires : goal.charge-at-requires
-charge-at-requires c =
+pub charge_at-requires : goal.charge_at-requires
+charge_at-requires c =
     let here : c.loop-place.place ≡ c.loop-place.place - 1 + 1 = omega (arith, c.loop-place-test.true) in
     record {
       reads = c.requires.reads;
@@ -49,7 +49,7 @@ loop-place-preserved-in-Some c =
 
 pub loop-place-preserved : goal.loop-place-preserved
 loop-place-preserved c =
-    (c.loop-place.invariant.0, omega (arith, c.loop-place.invariant.1), c.loop-place.invariant.2, sym (part c.loop-place.charges c.loop-place.first c.loop-place.invariant.0) ∙ sym c.in-default.ensures)
+    (c.loop-place.invariant.0, omega (arith, c.loop-place.invariant.1), c.loop-place.invariant.2, sym (part c.loop-place.charges c.loop-place.first c.loop-place.invariant.0) ∙ sym c.in_default.ensures)
 
 -- the charge of the whole stands alone
 alone : (ws charges : List ℕ) (place first : ℕ) (total : ℕ) (all : List ℕ → List ℕ) → place ≤ 0 → drop first charges ≡ all (drop place ws) → all ws ≡ total ∷ [] → drop first charges ≡ total ∷ []

@@ -25,10 +25,10 @@ units-requires c =
 pub unreachable-requires : goal.unreachable-requires
 unreachable-requires c =
     let a = standing c.args.words.now c.args.sheet.now c.requires.reads c.requires.within c.requires.priced c.requires.behind c.kind.ensures c.value-value.ensures in
-    not_refused _ _ c.in-default-units.ensures (small a _ _ (of_line a c.in-1.is))
+    not_refused _ _ c.in_default-units.ensures (small a _ _ (of_line a c.in-1.is))
 
-pub slice-bounds-added-end : goal.slice-bounds-added-end
-slice-bounds-added-end c =
+pub slice_bounds-added-end : goal.slice_bounds-added-end
+slice_bounds-added-end c =
     let a = standing c.args.words.now c.args.sheet.now c.requires.reads c.requires.within c.requires.priced c.requires.behind c.kind.ensures c.value-value.ensures in
     omega (arith, count_is a, (fits a).of_sum c.in-2.is)
 
@@ -47,23 +47,23 @@ bounds-charges-1 c =
     let a = standing c.args.words.now c.args.sheet.now c.requires.reads c.requires.within c.requires.priced c.requires.behind c.kind.ensures c.value-value.ensures in
     omega (arith, count_is a, (fits a).of_greater c.in-3.is)
 
-pub entry-count-requires : goal.entry-count-requires
-entry-count-requires c =
+pub entry_count-requires : goal.entry_count-requires
+entry_count-requires c =
     let a = standing c.args.words.now c.args.sheet.now c.requires.reads c.requires.within c.requires.priced c.requires.behind c.kind.ensures c.value-value.ensures in
     ((fits a).of_root c.in-4.is).2.lawful.branches
 
-pub overflow-add-entries-in-4-2 : goal.overflow-add-entries-in-4-2
-overflow-add-entries-in-4-2 c =
+pub overflow_add-entries-in-4-2 : goal.overflow_add-entries-in-4-2
+overflow_add-entries-in-4-2 c =
     let a = standing c.args.words.now c.args.sheet.now c.requires.reads c.requires.within c.requires.priced c.requires.behind c.kind.ensures c.value-value.ensures in
     omega (arith, ((fits a).of_root c.in-4.is).1, c.entry_count.ensures, length-drop (c.args.place + 1) c.args.words.now, read_few c.args.words.now c.requires.reads)
 
-pub slice-bounds-entries-end : goal.slice-bounds-entries-end
-slice-bounds-entries-end c =
+pub slice_bounds-entries-end : goal.slice_bounds-entries-end
+slice_bounds-entries-end c =
     let a = standing c.args.words.now c.args.sheet.now c.requires.reads c.requires.within c.requires.priced c.requires.behind c.kind.ensures c.value-value.ensures in
     omega (arith, ((fits a).of_root c.in-4.is).1, c.entry_count.ensures, length-drop (c.args.place + 1) c.args.words.now, read_few c.args.words.now c.requires.reads)
 
-pub slice-bounds-rooted-end : goal.slice-bounds-rooted-end
-slice-bounds-rooted-end c =
+pub slice_bounds-rooted-end : goal.slice_bounds-rooted-end
+slice_bounds-rooted-end c =
     let a = standing c.args.words.now c.args.sheet.now c.requires.reads c.requires.within c.requires.priced c.requires.behind c.kind.ensures c.value-value.ensures in
     omega (arith, count_is a, ((fits a).of_root c.in-4.is).0)
 
@@ -101,8 +101,8 @@ returns-in-4 c =
     let all = from_none c.value-value.result in
     (omega (arith, count_is a, ((fits a).of_root c.in-4.is).0), of_root a c.in-4.is ∙ (λ i. roots.root c.value-value.result (entry c.value-value.result (values_of (sym cut i) (drop (c.args.place + 1) c.args.words.now))) (charge_of_branch (take (sym all i) c.args.charges.now)) ∷ drop c.value-value.result c.args.charges.now) ∙ ap (λ x. x ∷ drop c.value-value.result c.args.charges.now) (sym c.rooted.ensures))
 
-pub returns-in-default : goal.returns-in-default
-returns-in-default c =
+pub returns-in_default : goal.returns-in_default
+returns-in_default c =
     let a = standing c.args.words.now c.args.sheet.now c.requires.reads c.requires.within c.requires.priced c.requires.behind c.kind.ensures c.value-value.ensures in
     let o : Other c.kind.result = omega arith in
     of_other a o

@@ -26,14 +26,14 @@ module _ (t : Table) (n : ℕ) (above charges : List ℕ) (has : HasAbove n abov
       same ∙ above_root t (charge_of_branch charges) ∙ (λ i. roots.root (has.size i) (entry (has.size i) (has.entries i)) (charge_of_branch charges))
 
 pub unreachable-requires : goal.unreachable-requires
-unreachable-requires c = c.in-default.ensures.0 c.requires.lawful
+unreachable-requires c = c.in_default.ensures.0 c.requires.lawful
 
-pub unreachable-requires-in-default-root : goal.unreachable-requires-in-default-root
-unreachable-requires-in-default-root c =
-    not_refused c.in-Ok.table _ _ c.args.charges.now c.in-Ok.ensures.1 c.requires.each c.in-default-root.field-0 c.in-default-root.ensures.value
+pub unreachable-requires-in_default-root : goal.unreachable-requires-in_default-root
+unreachable-requires-in_default-root c =
+    not_refused c.in-Ok.table _ _ c.args.charges.now c.in-Ok.ensures.1 c.requires.each c.in_default-root.field-0 c.in_default-root.ensures.value
 
-pub overflow-cast-result : goal.overflow-cast-result
-overflow-cast-result c =
+pub overflow_cast-result : goal.overflow_cast-result
+overflow_cast-result c =
     omega (arith, root_is c.in-Ok.table _ _ c.args.charges.now c.in-Ok.ensures.1 c.requires.each c.in-Ok-root.root c.in-Ok-root.ensures.value, c.requires.small)
 
 pub returns : goal.returns

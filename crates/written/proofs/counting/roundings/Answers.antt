@@ -17,15 +17,15 @@ loop-word-preserved c =
       | then-kind-eq-LINE w ↦
           elim w.then-kind-eq-LINE.branch [
             | then-kind-eq-LINE-via-then-kind-eq-LINE v ↦
-                (λ s. omega (arith, rounding_of_line ws c.requires i c.loop-word-test.true s (sym c.kind-kind.ensures ∙ v.if-kind-eq-LINE.true), w.roundings_is, c.loop-word.invariant.0 s), omega (arith, w.roundings_is, c.loop-word.invariant.1))
+                (λ s. omega (arith, rounding_of_line ws c.requires i c.loop-word-test.true s (sym c.kind-kind.ensures ∙ v.if-kind-eq-LINE.true), w.roundings-is, c.loop-word.invariant.0 s), omega (arith, w.roundings-is, c.loop-word.invariant.1))
             | then-kind-eq-LINE-via-else-kind-eq-LINE+then-kind-eq-ROOT v ↦
-                (λ s. omega (arith, rounding_of_root ws c.requires i c.loop-word-test.true s (sym c.kind-kind.ensures ∙ v.if-kind-eq-ROOT.true), w.roundings_is, c.loop-word.invariant.0 s), omega (arith, w.roundings_is, c.loop-word.invariant.1))
+                (λ s. omega (arith, rounding_of_root ws c.requires i c.loop-word-test.true s (sym c.kind-kind.ensures ∙ v.if-kind-eq-ROOT.true), w.roundings-is, c.loop-word.invariant.0 s), omega (arith, w.roundings-is, c.loop-word.invariant.1))
           ]
       | else-kind-eq-LINE+else-kind-eq-ROOT w ↦
-          (λ s. omega (arith, no_rounding ws c.requires i c.loop-word-test.true s (λ e. w.if-kind-eq-LINE.false (c.kind-kind.ensures ∙ e)) (λ e. w.if-kind-eq-ROOT.false (c.kind-kind.ensures ∙ e)), w.roundings_is, c.loop-word.invariant.0 s), omega (arith, w.roundings_is, c.loop-word.invariant.1))
+          (λ s. omega (arith, no_rounding ws c.requires i c.loop-word-test.true s (λ e. w.if-kind-eq-LINE.false (c.kind-kind.ensures ∙ e)) (λ e. w.if-kind-eq-ROOT.false (c.kind-kind.ensures ∙ e)), w.roundings-is, c.loop-word.invariant.0 s), omega (arith, w.roundings-is, c.loop-word.invariant.1))
     ]
 
 pub returns : goal.returns
 returns c s =
-    c.roundings-within.ensures
+    c.roundings_within.ensures
     ∙ ap roundings_answer (omega (arith, c.loop-word.invariant.0 s, at_drop_all (λ l. roundings_all (forest_of l) s) c.args.words.now c.loop-word.word-index c.loop-word-test.false, read_roundings c.args.words.now s c.requires))

@@ -21,12 +21,12 @@ root-requires-in-Down c = tables_lawful.down
 
 pub returns-in-Up : goal.returns-in-Up
 returns-in-Up c =
-    let estate = ap (λ b. sum (more (line b.0.number) (more (line b.1.0.number) none))) c.sum-real-estate.ensures ∙ (λ i. sum (more (line (c.line.ensures i)) (more (line (c.line-2.ensures i)) none))) in
+    let estate = ap (λ b. sum (more (line b.0.number) (more (line b.1.0.number) none))) c.sum-real_estate.ensures ∙ (λ i. sum (more (line (c.line.ensures i)) (more (line (c.line-2.ensures i)) none))) in
     let money : greater (line c.new-currency.result.branches.0.number) (line c.new-currency.result.branches.1.0.number) ≡ currency_tree = (λ i. greater (line (c.new-currency.ensures.first i).number) (line (c.new-currency.ensures.second i).number)) ∙ (λ i. greater (line (c.line-3.ensures i)) (line (c.line-4.ensures i))) in
     told up_entries 15 _ _ _ _ _ _ c.line-in-Up.ensures c.line-in-Up-2.ensures estate money c.line-5.ensures c.root.ensures ∙ ap spread_of (sym c.in-Up.is)
 
 pub returns-in-Down : goal.returns-in-Down
 returns-in-Down c =
-    let estate = ap (λ b. sum (more (line b.0.number) (more (line b.1.0.number) none))) c.sum-real-estate.ensures ∙ (λ i. sum (more (line (c.line.ensures i)) (more (line (c.line-2.ensures i)) none))) in
+    let estate = ap (λ b. sum (more (line b.0.number) (more (line b.1.0.number) none))) c.sum-real_estate.ensures ∙ (λ i. sum (more (line (c.line.ensures i)) (more (line (c.line-2.ensures i)) none))) in
     let money : greater (line c.new-currency.result.branches.0.number) (line c.new-currency.result.branches.1.0.number) ≡ currency_tree = (λ i. greater (line (c.new-currency.ensures.first i).number) (line (c.new-currency.ensures.second i).number)) ∙ (λ i. greater (line (c.line-3.ensures i)) (line (c.line-4.ensures i))) in
     told down_entries 16 _ _ _ _ _ _ c.line-in-Down.ensures c.line-in-Down-2.ensures estate money c.line-5.ensures c.root-in-Down.ensures ∙ ap spread_of (sym c.in-Down.is)

@@ -9,5 +9,5 @@ use Rattle.written.proofs.written.questions.WrittenRiskModule.charge.Goals as go
 pub charge-requires : goal.charge-requires
 charge-requires c = record {
   reads = c.words.ensures.reads;
-  priced = subst (λ l. gross (tree_of l) c.args.sheet.now ≤ most_gross) (sym c.words.ensures.value) (gross_told _ _ c.in-ok-gross.ensures).1;
+  priced = subst (λ l. gross (tree_of l) c.args.sheet.now ≤ most_gross) (sym c.words.ensures.value) (gross_told _ _ c.in_ok-gross.ensures).1;
 }
