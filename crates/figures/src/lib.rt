@@ -1,4 +1,6 @@
 // The worked figures of the rule book: a theorem over their list, and the same through the calls.
+#![tactic(auto)]
+
 ghost use Rattle.figures.specs.Figures.{Holds, figures};
 ghost use Rattle.std.specs.List.{AllByRecursion as All};
 

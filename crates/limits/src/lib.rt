@@ -1,4 +1,6 @@
 // Limit rules: what one stands for, and the stock and the mutual rule.
+#![tactic(auto)]
+
 mod bins;
 mod mutual;
 mod rule;

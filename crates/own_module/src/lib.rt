@@ -1,4 +1,6 @@
 // A risk module and a limit rule of a controller's own.
+#![tactic(auto)]
+
 mod notice;
 mod prudent;
 

@@ -1,4 +1,6 @@
 // The solvency ratio and the supervisory class, under any risk module and any limit rule.
+#![tactic(auto)]
+
 mod asking;
 mod class;
 mod rating;

@@ -1,4 +1,6 @@
 // Required capital: settings, operational charge and tax effect, over any risk module.
+#![tactic(auto)]
+
 mod answer;
 mod business;
 mod capital;

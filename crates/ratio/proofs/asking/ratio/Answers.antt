@@ -10,8 +10,8 @@ returns g c =
     let m = c.args.rule.now in
     let scale = g.R.LimitRule.scale m in
     let capital = g.R.LimitRule.capital m s in
-    let told = c.in-ok-required.ensures in
+    let told = c.in_ok-required.ensures in
     record {
       answer = c.rated.ensures ∙ ap (λ q. ratio_answer q s scale capital) told.answer;
-      cautious = held_cautious c.args.settings.now (g.M.RiskModule.tree c.args.«module».now) s scale capital c.in-ok-required.required.required c.rated.result (g.met.R.LimitRule.counts m s) (λ k one. (told.near k one).not_below) c.rated.ensures;
+      cautious = held_cautious c.args.settings.now (g.M.RiskModule.tree c.args.«module».now) s scale capital c.in_ok-required.required.required c.rated.result (g.met.R.LimitRule.counts m s) (λ k one. (told.near k one).not_below) c.rated.ensures;
     }

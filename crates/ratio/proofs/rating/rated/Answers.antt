@@ -4,11 +4,11 @@ use Rattle.limits.proofs.Answering.{counted_most}
 use Rattle.ratio.proofs.Holding.{bins_small}
 use Rattle.ratio.proofs.rating.rated.Goals as goal
 
-pub overflow-mul-scaled : goal.overflow-mul-scaled
-overflow-mul-scaled g c =
+pub overflow_mul-scaled : goal.overflow_mul-scaled
+overflow_mul-scaled g c =
     let s = c.args.sheet in
     let m = c.args.rule.now in
-    let most = counted_most s (g.R.LimitRule.scale m) (g.R.LimitRule.capital m s) c.args.required c.in-ok-counted.counted (g.met.R.LimitRule.counts m s) c.in-ok-counted.ensures in
+    let most = counted_most s (g.R.LimitRule.scale m) (g.R.LimitRule.capital m s) c.args.required c.in_ok-counted.counted (g.met.R.LimitRule.counts m s) c.in_ok-counted.ensures in
     let uncapped : SFits w64 s.uncapped = search rules in
     let capped : (i : ℕ) → Fits w64 (get_or s.capped i 0) = λ i. search rules in
     record { fits = omega (arith, most, bins_small s uncapped capped) }

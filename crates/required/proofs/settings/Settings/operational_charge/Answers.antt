@@ -5,4 +5,4 @@ use Rattle.required.proofs.settings.Settings.operational_charge.Goals as goal
 
 pub returns : goal.returns
 unfolding operational_charge_of
-returns c = record { value = omega (arith, c.div-ceil.ensures); bound = omega (arith, c.div-ceil.ensures) }
+returns c = record { value = omega (arith, c.div_ceil.ensures); bound = omega (arith, c.div_ceil.ensures) }

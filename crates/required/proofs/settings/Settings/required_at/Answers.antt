@@ -7,6 +7,6 @@ use Rattle.required.proofs.settings.Settings.required_at.Goals as goal
 pub returns : goal.returns
 unfolding tax_effect_of
 returns c =
-    let deduction = told {z = c.args.self.now.management_deduction} (search rules) c.at-least-zero-deduction.ensures in
-    let operational = c.operational-charge-operational.ensures.value in
+    let deduction = told {z = c.args.self.now.management_deduction} (search rules) c.at_least_zero-deduction.ensures in
+    let operational = c.operational_charge-operational.ensures.value in
     cc
