@@ -1,4 +1,6 @@
 // Parses the program's input: its tables, its root, its totals and its prices.
+#![tactic(auto)]
+
 mod numbers;
 mod words;
 
