@@ -1,4 +1,6 @@
 // What the programs do around a script: read it, and print its answers or its fault.
+#![tactic(auto)]
+
 use anyhow::anyhow;
 use session::answers;
 use std::io::Read;

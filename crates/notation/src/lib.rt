@@ -1,4 +1,6 @@
 // A second notation for written trees, for people: `root[25](line 1, line 14)`, turned into words and back.
+#![tactic(auto)]
+
 mod hexadecimal;
 mod reading;
 mod showing;

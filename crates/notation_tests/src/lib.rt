@@ -1,4 +1,6 @@
 // Tests of the notation: worked trees, counts and numbers that are refused later, what is no notation, and trees that are shown.
+#![tactic(auto)]
+
 #[cfg(test)]
 mod tests {
     use notation::{hexadecimal_words, show, words_of};

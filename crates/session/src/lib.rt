@@ -1,4 +1,6 @@
 // Answers a script's statements in order: which table stands and the roots under it, which totals stand and what they cost.
+#![tactic(auto)]
+
 mod answer;
 mod price;
 mod run;

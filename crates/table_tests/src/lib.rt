@@ -1,4 +1,6 @@
 // Tests of correlation tables: every size, both ways in, and each kind of fault.
+#![tactic(auto)]
+
 #[cfg(test)]
 mod tests {
     use correlation::Table;

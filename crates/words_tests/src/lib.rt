@@ -1,4 +1,6 @@
 // Tests of the words of written trees: what reads, and every refusal with its place.
+#![tactic(auto)]
+
 #[cfg(test)]
 mod cases;
 

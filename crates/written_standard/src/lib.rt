@@ -1,4 +1,6 @@
 // A test of a written tree in the place of the standard tree's non_life module.
+#![tactic(auto)]
+
 #[cfg(test)]
 mod tests {
     use modules::{Line, Sheet, price};

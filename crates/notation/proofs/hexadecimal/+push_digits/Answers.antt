@@ -5,4 +5,4 @@ use Rattle.notation.proofs.hexadecimal.+push_digits.Goals as goal
 
 pub returns : goal.returns
 returns t c =
-    digit_pushed (string_bytes c.args.text.now) (string_bytes c.push-digits.new.text) _ _ c.args.count c.args.n c.digit.result (λ e. omega arith) c.in-ok-push-digits.ensures c.in-ok-push.ensures.bytes (c.in-ok-push.ensures.ascii c.digit.ensures.bound) c.digit.ensures.value
+    digit_pushed (string_bytes c.args.text.now) (string_bytes c.push_digits.new.text) _ _ c.args.count c.args.n c.digit.result (λ e. omega arith) c.in_ok-push_digits.ensures c.in_ok-push.ensures.bytes (c.in_ok-push.ensures.ascii c.digit.ensures.bound) c.digit.ensures.value

@@ -4,5 +4,5 @@ use Rattle.notation.proofs.hexadecimal.push_word.Goals as goal
 
 pub returns : goal.returns
 returns c =
-    c.in-ok-push-digits.ensures ∙ ap (λ x. x ++ digits_text 8 c.args.word) c.in-ok-push-str.ensures.bytes
+    c.in_ok-push_digits.ensures ∙ ap (λ x. x ++ digits_text 8 c.args.word) c.in_ok-push_str.ensures.bytes
     ∙ append_assoc (string_bytes c.args.text.now) (codes "0x") (digits_text 8 c.args.word)

@@ -9,12 +9,12 @@ use Rattle.notation.proofs.reading.+branch_branches.Goals.{branch-In-Some-2, bra
 
 branch_is_read : (t : ℕ) (c : branches-In-Some-2 t) → BranchRead c.args.levels c.loop-behind.left.now (vec_items c.loop-behind.words) (vec_items c.branch-words.new.words) (Some c.in-Some-2.behind)
 branch_is_read t c =
-    subst (BranchRead c.args.levels c.loop-behind.left.now (vec_items c.loop-behind.words) (vec_items c.branch-words.new.words)) c.in-Some-2.is c.in-ok-behind.ensures
+    subst (BranchRead c.args.levels c.loop-behind.left.now (vec_items c.loop-behind.words) (vec_items c.branch-words.new.words)) c.in-Some-2.is c.in_ok-behind.ensures
 
 head_and_list : (t : ℕ) (c : branch-In-Some-2 t) → Headed c.args.levels c.args.tokens.now (vec_items c.args.words.now) (vec_items c.branches.new.words) c.in-Some-2.count c.in-Some-2.rest.now
 head_and_list t c =
-    headed c.args.levels c.args.tokens.now (vec_items c.args.words.now) (vec_items c.head.new.words) (vec_items c.branches.new.words) c.in-ok-begun.field-0 c.in-Some.begun c.in-Some.behind c.in-ok-count.field-0 c.in-Some-2.count c.in-Some-2.rest
-    c.in-ok-begun.ensures c.in-Some.is c.in-Listed.is c.in-ok-count.ensures c.in-Some-2.is
+    headed c.args.levels c.args.tokens.now (vec_items c.args.words.now) (vec_items c.head.new.words) (vec_items c.branches.new.words) c.in_ok-begun.field-0 c.in-Some.begun c.in-Some.behind c.in_ok-count.field-0 c.in-Some-2.count c.in-Some-2.rest
+    c.in_ok-begun.ensures c.in-Some.is c.in-Listed.is c.in_ok-count.ensures c.in-Some-2.is
 
 pub branch-returns-then-levels-eq0 : goal.branch-returns-then-levels-eq0
 branch-returns-then-levels-eq0 t c = no_levels c.args.levels c.args.tokens.now (omega arith)
@@ -22,15 +22,15 @@ branch-returns-then-levels-eq0 t c = no_levels c.args.levels c.args.tokens.now (
 pub branch-returns-in-default : goal.branch-returns-in-default
 branch-returns-in-default t c =
     no_head_no_sketch c.args.levels c.args.tokens.now
-    (subst (HeadRead c.args.tokens.now (vec_items c.args.words.now) (vec_items c.head.new.words)) c.in-default.is c.in-ok-begun.ensures)
+    (subst (HeadRead c.args.tokens.now (vec_items c.args.words.now) (vec_items c.head.new.words)) c.in-default.is c.in_ok-begun.ensures)
 
 pub branch-returns-in-default-2 : goal.branch-returns-in-default-2
 branch-returns-in-default-2 t c =
-    no_list_read c.args.levels c.args.tokens.now (vec_items c.args.words.now) (vec_items c.head.new.words) (vec_items c.branches.new.words) c.in-ok-begun.field-0 c.in-Some.begun c.in-Some.behind c.in-ok-count.field-0 c.in-ok-begun.ensures c.in-Some.is c.in-Listed.is c.in-ok-count.ensures c.in-default-2.is
+    no_list_read c.args.levels c.args.tokens.now (vec_items c.args.words.now) (vec_items c.head.new.words) (vec_items c.branches.new.words) c.in_ok-begun.field-0 c.in-Some.begun c.in-Some.behind c.in_ok-count.field-0 c.in_ok-begun.ensures c.in-Some.is c.in-Listed.is c.in_ok-count.ensures c.in-default-2.is
 
 pub branch-returns-in-Whole : goal.branch-returns-in-Whole
 branch-returns-in-Whole t c =
-    line_read c.args.levels c.args.tokens.now (vec_items c.args.words.now) (vec_items c.head.new.words) c.in-ok-begun.field-0 c.in-Some.begun c.in-Some.behind (omega arith) c.in-ok-begun.ensures c.in-Some.is c.in-Whole.is
+    line_read c.args.levels c.args.tokens.now (vec_items c.args.words.now) (vec_items c.head.new.words) c.in_ok-begun.field-0 c.in-Some.begun c.in-Some.behind (omega arith) c.in_ok-begun.ensures c.in-Some.is c.in-Whole.is
 
 pub branch-index-word-requires : goal.branch-index-word-requires
 branch-index-word-requires t c =
@@ -42,15 +42,15 @@ branch-index-mut-requires t c =
     let hd = head_and_list t (goal.at.branch-index-mut-requires t c).In-Some-2 in
     omega (arith, own_place hd c.len-at.result (omega (arith, c.len-at.ensures, c.args.words.now.ok.0)), c.branches.new.words.ok.0)
 
-pub branch-overflow-add-word : goal.branch-overflow-add-word
-branch-overflow-add-word t c =
-    let hd = head_and_list t (goal.at.branch-overflow-add-word t c).In-Some-2 in
-    omega (arith, own_small hd c.len-at.result (omega (arith, c.len-at.ensures, c.args.words.now.ok.0)) c.index-word.result.now c.index-word.ensures, c.clipped-count.ensures)
+pub branch-overflow_add-word : goal.branch-overflow_add-word
+branch-overflow_add-word t c =
+    let hd = head_and_list t (goal.at.branch-overflow_add-word t c).In-Some-2 in
+    omega (arith, own_small hd c.len-at.result (omega (arith, c.len-at.ensures, c.args.words.now.ok.0)) c.index-word.result.now c.index-word.ensures, c.clipped_count.ensures)
 
 pub branch-returns-in-Some-2 : goal.branch-returns-in-Some-2
 branch-returns-in-Some-2 t c =
     let hd = head_and_list t (goal.at.branch-returns-in-Some-2 t c).In-Some-2 in
-    sketch_read hd c.len-at.result (omega (arith, c.len-at.ensures, c.args.words.now.ok.0)) (omega arith) c.index-word.result.now c.index-word.ensures _ _ (omega (arith, c.clipped-count.ensures)) refl
+    sketch_read hd c.len-at.result (omega (arith, c.len-at.ensures, c.args.words.now.ok.0)) (omega arith) c.index-word.result.now c.index-word.ensures _ _ (omega (arith, c.clipped_count.ensures)) refl
 
 pub branches-returns-in-Some : goal.branches-returns-in-Some
 branches-returns-in-Some t c = (none, list_empty c.args.levels c.args.tokens.now c.in-Some.rest.now (vec_items c.args.words.now) c.in-Some.ensures)
@@ -61,35 +61,35 @@ branches-loop-behind-init t c = ((none, list_begins c.args.levels c.args.tokens.
 pub branches-returns-in-default-2 : goal.branches-returns-in-default-2
 branches-returns-in-default-2 t c =
     no_list c.args.levels c.args.tokens.now c.in-default.ensures
-    (no_branch_left c.loop-behind.invariant.0.1 (subst (BranchRead c.args.levels c.loop-behind.left.now (vec_items c.loop-behind.words) (vec_items c.branch-words.new.words)) c.in-default-2.is c.in-ok-behind.ensures))
+    (no_branch_left c.loop-behind.invariant.0.1 (subst (BranchRead c.args.levels c.loop-behind.left.now (vec_items c.loop-behind.words) (vec_items c.branch-words.new.words)) c.in-default-2.is c.in_ok-behind.ensures))
 
-pub branches-returns-in-default-split-first : goal.branches-returns-in-default-split-first
-branches-returns-in-default-split-first t c =
-    let got = branch_is_read t (goal.at.branches-returns-in-default-split-first t c).In-Some-2 in
+pub branches-returns-in-default-split_first : goal.branches-returns-in-default-split_first
+branches-returns-in-default-split_first t c =
+    let got = branch_is_read t (goal.at.branches-returns-in-default-split_first t c).In-Some-2 in
     no_list c.args.levels c.args.tokens.now c.in-default.ensures
-    (list_stops c.loop-behind.invariant.0.1 got.1 (nil_from_length c.in-Some-2.behind.now c.in-default-split-first.ensures.cases))
+    (list_stops c.loop-behind.invariant.0.1 got.1 (nil_from_length c.in-Some-2.behind.now c.in-default-split_first.ensures.cases))
 
 pub branches-returns-in-default-token : goal.branches-returns-in-default-token
 branches-returns-in-default-token t c =
     let got = branch_is_read t (goal.at.branches-returns-in-default-token t c).In-Some-2 in
     no_list c.args.levels c.args.tokens.now c.in-default.ensures
-    (list_breaks c.loop-behind.invariant.0.1 got.1 c.in-Some-split-first.token.now c.in-Some-split-first.rest.now c.in-Some-split-first.ensures.cases.0 c.in-default-token.not-Close c.in-default-token.not-Comma)
+    (list_breaks c.loop-behind.invariant.0.1 got.1 c.in-Some-split_first.token.now c.in-Some-split_first.rest.now c.in-Some-split_first.ensures.cases.0 c.in-default-token.not-Close c.in-default-token.not-Comma)
 
 pub branches-returns-in-Close : goal.branches-returns-in-Close
 branches-returns-in-Close t c =
     let inv = c.loop-behind.invariant in
     let got = branch_is_read t (goal.at.branches-returns-in-Close t c).In-Some-2 in
-    (put inv.0.0 got.0, list_ends inv.0.1 got.1 c.in-Some-split-first.rest.now (c.in-Some-split-first.ensures.cases.0 ∙ ap (λ t. t ∷ c.in-Some-split-first.rest.now) c.in-Close.is))
+    (put inv.0.0 got.0, list_ends inv.0.1 got.1 c.in-Some-split_first.rest.now (c.in-Some-split_first.ensures.cases.0 ∙ ap (λ t. t ∷ c.in-Some-split_first.rest.now) c.in-Close.is))
 
 pub branches-loop-behind-smaller : goal.branches-loop-behind-smaller
 branches-loop-behind-smaller t c =
     let got = branch_is_read t (goal.at.branches-loop-behind-smaller t c).In-Some-2 in
-    omega (arith, simp length-append at (ap length got.1.tokens), ap length c.in-Some-split-first.ensures.cases.0)
+    omega (arith, simp length-append at (ap length got.1.tokens), ap length c.in-Some-split_first.ensures.cases.0)
 
 pub branches-loop-behind-preserved : goal.branches-loop-behind-preserved
 branches-loop-behind-preserved t c =
     let inv = c.loop-behind.invariant in
-    let got = subst (BranchRead c.args.levels c.loop-behind.left.now (vec_items c.loop-behind.words) (vec_items c.branch-words.new.words)) c.in-Some-2.is c.in-ok-behind.ensures in (
-      (put inv.0.0 got.0, list_goes_on inv.0.1 got.1 c.in-Some-split-first.rest.now (c.in-Some-split-first.ensures.cases.0 ∙ ap (λ t. t ∷ c.in-Some-split-first.rest.now) c.in-Comma.is)),
-      omega (arith, simp length-append at (ap length got.1.tokens), ap length c.in-Some-split-first.ensures.cases.0, inv.1),
+    let got = subst (BranchRead c.args.levels c.loop-behind.left.now (vec_items c.loop-behind.words) (vec_items c.branch-words.new.words)) c.in-Some-2.is c.in_ok-behind.ensures in (
+      (put inv.0.0 got.0, list_goes_on inv.0.1 got.1 c.in-Some-split_first.rest.now (c.in-Some-split_first.ensures.cases.0 ∙ ap (λ t. t ∷ c.in-Some-split_first.rest.now) c.in-Comma.is)),
+      omega (arith, simp length-append at (ap length got.1.tokens), ap length c.in-Some-split_first.ensures.cases.0, inv.1),
     )

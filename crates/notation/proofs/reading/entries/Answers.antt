@@ -11,7 +11,7 @@ pub loop-token-preserved : goal.loop-token-preserved
 loop-token-preserved c =
     let inv = c.loop-token.invariant in
     let at = c.in-Some.ensures.cases.0 ∙ ap (λ t. t ∷ c.in-Some.rest.now) c.in-Number.is in
-    let pushed = c.in-ok-push.ensures.items ∙ ap (λ x. vec_items c.loop-token.words ++ (1342177280 + x) ∷ []) c.clipped.ensures in
+    let pushed = c.in_ok-push.ensures.items ∙ ap (λ x. vec_items c.loop-token.words ++ (1342177280 + x) ∷ []) c.clipped.ensures in
     let more = entry_more c.args.tokens.now c.loop-token.left.now c.in-Some.rest.now (vec_items c.args.words.now) (vec_items c.loop-token.words) (vec_items c.push.new.self) inv.0 c.in-Number.n inv.1 at inv.2 pushed in
     (inv.0 ++ c.in-Number.n ∷ [], more.0, more.1, λ no. inv.3 (entries_behind _ _ c.in-Number.n at no))
 
@@ -21,12 +21,12 @@ returns-in-EntriesClose c =
     let at = c.in-Some.ensures.cases.0 ∙ ap (λ t. t ∷ c.in-Some.rest.now) c.in-EntriesClose.is in
     entries_end c.args.tokens.now c.loop-token.left.now c.in-Some.rest.now (vec_items c.args.words.now) (vec_items c.loop-token.words) inv.0 c.opened.result inv.1 inv.2 inv.3 at c.opened.ensures
 
-pub returns-in-default : goal.returns-in-default
-returns-in-default c =
-    let empty = nil_from_length c.loop-token.left.now c.in-default.ensures.cases in
+pub returns-in_default : goal.returns-in_default
+returns-in_default c =
+    let empty = nil_from_length c.loop-token.left.now c.in_default.ensures.cases in
     c.loop-token.invariant.3 (no_entries _ (λ n r e. omega (arith, ap first_rank (sym empty ∙ e))) (λ r e. omega (arith, ap first_rank (sym empty ∙ e))))
 
-pub returns-in-default-token : goal.returns-in-default-token
-returns-in-default-token c =
+pub returns-in_default-token : goal.returns-in_default-token
+returns-in_default-token c =
     let at = c.in-Some.ensures.cases.0 in
-    c.loop-token.invariant.3 (no_entries _ (λ n r e. c.in-default-token.not-Number n (first_same _ _ _ _ (sym at ∙ e))) (λ r e. c.in-default-token.not-EntriesClose (first_same _ _ _ _ (sym at ∙ e))))
+    c.loop-token.invariant.3 (no_entries _ (λ n r e. c.in_default-token.not-Number n (first_same _ _ _ _ (sym at ∙ e))) (λ r e. c.in_default-token.not-EntriesClose (first_same _ _ _ _ (sym at ∙ e))))

@@ -10,12 +10,12 @@ use Rattle.notation.proofs.reading.root.Goals as goal
 
 pub returns-in-Some : goal.returns-in-Some
 returns-in-Some c =
-    let found = rw c.in-Some.is at c.in-ok-rest.ensures in
+    let found = rw c.in-Some.is at c.in_ok-rest.ensures in
     let at : c.args.tokens.now ≡ EntriesOpen ∷ c.in-Some-EntriesOpen-default.behind.now = search rules in
-    root_begun _ _ _ _ _ _ found.0 at c.in-ok-push.ensures.items found.1
+    root_begun _ _ _ _ _ _ found.0 at c.in_ok-push.ensures.items found.1
 
 pub returns-in-None : goal.returns-in-None
 returns-in-None c =
-    let lacks = rw c.in-None.is at c.in-ok-rest.ensures in
+    let lacks = rw c.in-None.is at c.in_ok-rest.ensures in
     let at : c.args.tokens.now ≡ EntriesOpen ∷ c.in-Some-EntriesOpen-default.behind.now = search rules in
     no_root _ _ at lacks

@@ -2,8 +2,8 @@
 use Rattle.std.proofs.Common.{◌+◌, ◌*◌, length}
 use Rattle.notation.proofs.showing.+push_branch_push_branches.Given as goal
 
-abbrev pub decreases-push-branch : goal.decreases-push-branch
-decreases-push-branch l = 2 * length l.words.now
+abbrev pub decreases-push_branch : goal.decreases-push_branch
+decreases-push_branch l = 2 * length l.words.now
 
-abbrev pub decreases-push-branches : goal.decreases-push-branches
-decreases-push-branches l = 2 * length l.words.now + 1
+abbrev pub decreases-push_branches : goal.decreases-push_branches
+decreases-push_branches l = 2 * length l.words.now + 1

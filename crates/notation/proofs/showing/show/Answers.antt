@@ -4,15 +4,15 @@ use Rattle.notation.specs.Plain.{tree_text}
 use Rattle.notation.proofs.Back.{noted_text}
 use Rattle.notation.proofs.showing.show.Goals as goal
 
-pub returns-in-default : goal.returns-in-default
-returns-in-default c = record {
-  shown = λ t reads. c.in-default.ensures.exactly.not_both t _ reads c.in-default.ensures.answer;
+pub returns-in_default : goal.returns-in_default
+returns-in_default c = record {
+  shown = λ t reads. c.in_default.ensures.exactly.not_both t _ reads c.in_default.ensures.answer;
   back = tt;
 }
 
 pub returns : goal.returns
 returns c =
     let (t, reads, own) = c.in-Ok.ensures.answer in
-    let got = c.in-ok-push-branch.ensures t [] (1, c.args.words.now, sym (append-nil c.args.words.now), reads.1) in
-    let text : string_bytes c.push-branch.new.text ≡ tree_text c.args.indent t = got.1 ∙ (λ j. c.new-text.ensures.bytes j ++ tree_text (c.from.ensures j) t) in
-    record { shown = (t, reads, text); back = noted_text c.args.indent (string_bytes c.push-branch.new.text) t c.args.words.now reads.1 text }
+    let got = c.in_ok-push_branch.ensures t [] (1, c.args.words.now, sym (append-nil c.args.words.now), reads.1) in
+    let text : string_bytes c.push_branch.new.text ≡ tree_text c.args.indent t = got.1 ∙ (λ j. c.new-text.ensures.bytes j ++ tree_text (c.from.ensures j) t) in
+    record { shown = (t, reads, text); back = noted_text c.args.indent (string_bytes c.push_branch.new.text) t c.args.words.now reads.1 text }

@@ -11,4 +11,4 @@ returns c =
     let s = c.args.sheet.now in
     let g = gross (tower 1000) s in
     let n = roundings (tower 1000) s in
-    sym (charge_refused g n (charge_of 0 g n) c.in-ok-gross.field-0 c.in-ok-gross.ensures (omega (arith, tower_roundings 1000 s)))
+    sym (charge_refused g n (charge_of 0 g n) c.in_ok-gross.field-0 c.in_ok-gross.ensures (omega (arith, tower_roundings 1000 s)))

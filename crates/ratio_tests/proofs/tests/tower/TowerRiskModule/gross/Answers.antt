@@ -11,5 +11,5 @@ pub returns : goal.returns
 unfolding units
 returns c =
     let s = c.args.sheet.now in
-    let is : 1001 * c.div-ceil-units.result ≡ gross (tower 1000) s = omega (arith, tower_gross 1000 s, c.div-ceil-units.ensures, c.unwrap-or.ensures, ap (λ o. unwrap_or o 0) c.total.ensures) in
-    c.gross-within.ensures ∙ ap gross_answer is
+    let is : 1001 * c.div_ceil-units.result ≡ gross (tower 1000) s = omega (arith, tower_gross 1000 s, c.div_ceil-units.ensures, c.unwrap_or.ensures, ap (λ o. unwrap_or o 0) c.total.ensures) in
+    c.gross_within.ensures ∙ ap gross_answer is
