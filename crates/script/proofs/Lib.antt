@@ -4,4 +4,3 @@ pub mod Behind
 pub mod Saturates
 pub mod Turns
 pub mod Back
-pub mod Same

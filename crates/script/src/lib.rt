@@ -123,13 +123,13 @@ impl Statement {
     fn read(heap: Global, word: &[u8], text: &[u8]) -> Result<Reading, AllocError>
         ensures { IfOk result (λ s. outcome s ≡ statement_of word.now (words text.now)) }
     {
-        if word == b"table" {
+        if word == b"table".as_slice() {
             Statement::table(heap, text)
-        } else if word == b"root" {
+        } else if word == b"root".as_slice() {
             Statement::root(heap, text)
-        } else if word == b"total" {
+        } else if word == b"total".as_slice() {
             Statement::total(heap, text)
-        } else if word == b"price" {
+        } else if word == b"price".as_slice() {
             Ok(Statement::price(text))
         } else {
             Ok(Err(Misread::UnknownStatement))
@@ -185,7 +185,7 @@ impl Statement {
         let Some((tree, rest)) = next_word(text) else {
             return Err(Misread::UnknownTree);
         };
-        if tree == b"standard" && next_word(rest).is_none() {
+        if tree == b"standard".as_slice() && next_word(rest).is_none() {
             Ok(Statement::PriceStandard)
         } else {
             Err(Misread::UnknownTree)

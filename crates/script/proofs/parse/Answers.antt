@@ -18,13 +18,13 @@ turn c =
       is_content = c.cut-in-loop-left.ensures.front;
     }
 
-pub loop-left-smaller-in-default : goal.loop-left-smaller-in-default
-loop-left-smaller-in-default c = less (turn (goal.at.loop-left-smaller-in-default c).After-cut-in-loop-left)
+pub loop-left-smaller-in_default : goal.loop-left-smaller-in_default
+loop-left-smaller-in_default c = less (turn (goal.at.loop-left-smaller-in_default c).After-cut-in-loop-left)
 
-pub loop-left-preserved-in-default : goal.loop-left-preserved-in-default
-loop-left-preserved-in-default c =
-    let t = turn (goal.at.loop-left-preserved-in-default c).After-cut-in-loop-left in
-    (passed t (c.loop-left.line + 1) _ _ c.in-default.ensures c.loop-left.invariant.0, omega (arith, less t, c.loop-left.invariant.1))
+pub loop-left-preserved-in_default : goal.loop-left-preserved-in_default
+loop-left-preserved-in_default c =
+    let t = turn (goal.at.loop-left-preserved-in_default c).After-cut-in-loop-left in
+    (passed t (c.loop-left.line + 1) _ _ c.in_default.ensures c.loop-left.invariant.0, omega (arith, less t, c.loop-left.invariant.1))
 
 pub loop-left-smaller : goal.loop-left-smaller
 loop-left-smaller c = less (turn (goal.at.loop-left-smaller c).After-cut-in-loop-left)
@@ -32,14 +32,14 @@ loop-left-smaller c = less (turn (goal.at.loop-left-smaller c).After-cut-in-loop
 pub loop-left-preserved : goal.loop-left-preserved
 loop-left-preserved c =
     let t = turn (goal.at.loop-left-preserved c).After-cut-in-loop-left in (
-      stated t (c.loop-left.line + 1) _ _ c.in-Some.ensures.0 _ c.in-ok-statement.ensures (vec_items c.loop-left.statements) (vec_items c.push.new.self) _ _ c.in-Ok.is c.in-ok-push.ensures.items c.loop-left.invariant.0,
+      stated t (c.loop-left.line + 1) _ _ c.in-Some.ensures.0 _ c.in_ok-statement.ensures (vec_items c.loop-left.statements) (vec_items c.push.new.self) _ _ c.in-Ok.is c.in_ok-push-in-Ok.ensures.items c.loop-left.invariant.0,
       omega (arith, less t, c.loop-left.invariant.1),
     )
 
 pub returns-in-Err : goal.returns-in-Err
 returns-in-Err c =
     let t = turn (goal.at.returns-in-Err c).After-cut-in-loop-left in
-    let means = misread t (c.loop-left.line + 1) _ _ c.in-Some.ensures.0 _ c.in-ok-statement.ensures _ _ _ c.in-Err.is c.loop-left.invariant.0 in
+    let means = misread t (c.loop-left.line + 1) _ _ c.in-Some.ensures.0 _ c.in_ok-statement.ensures _ _ _ c.in-Err.is c.loop-left.invariant.0 in
     record { meaning = means; back = read_back c.args.text.now (Err (Line (c.loop-left.line + 1) c.in-Err.misread)) means }
 
 pub returns : goal.returns

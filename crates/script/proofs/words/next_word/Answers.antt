@@ -13,10 +13,10 @@ some c = omega (arith, false-eqb _ 0 c.loop-left-test.ensures)
 less : (c : After-cut) → length c.cut.result.1.now < length c.loop-left.left.now
 less c = shorter Space _ _ (some c) c.cut.ensures.back
 
-pub returns-then-not-is-empty : goal.returns-then-not-is-empty
-returns-then-not-is-empty c =
-    let at = (goal.at.returns-then-not-is-empty c).After-cut in
-    let filled : 0 < length c.cut.result.0.now = omega (arith, false-eqb _ 0 c.if-not-is-empty.ensures) in
+pub returns-then-not-is_empty : goal.returns-then-not-is_empty
+returns-then-not-is_empty c =
+    let at = (goal.at.returns-then-not-is_empty c).After-cut in
+    let filled : 0 < length c.cut.result.0.now = omega (arith, false-eqb _ 0 c.if-not-is_empty.ensures) in
     (sym c.loop-left.invariant.0 ∙ word_first _ _ _ (some at) c.cut.ensures.front c.cut.ensures.back filled, omega (arith, less at, c.loop-left.invariant.1))
 
 pub loop-left-smaller : goal.loop-left-smaller
@@ -25,7 +25,7 @@ loop-left-smaller c = less (goal.at.loop-left-smaller c).After-cut
 pub loop-left-preserved : goal.loop-left-preserved
 loop-left-preserved c =
     let at = (goal.at.loop-left-preserved c).After-cut in
-    let empty = true-eqb _ 0 c.if-not-is-empty.ensures in
+    let empty = true-eqb _ 0 c.if-not-is_empty.ensures in
     (sym (no_word_first _ _ _ (some at) c.cut.ensures.front c.cut.ensures.back empty) ∙ c.loop-left.invariant.0, omega (arith, less at, c.loop-left.invariant.1))
 
 pub returns : goal.returns

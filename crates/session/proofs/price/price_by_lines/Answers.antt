@@ -5,4 +5,4 @@ use Rattle.modules.specs.Charged.{charged}
 use Rattle.session.proofs.price.price_by_lines.Goals as goal
 
 pub returns : goal.returns
-returns c = c.plain-price.ensures ∙ ap (λ t. charge_answer t c.args.sheet.now (charged t c.args.sheet.now)) c.standard-tree.ensures.tree
+returns c = c.plain_price.ensures ∙ ap (λ t. charge_answer t c.args.sheet.now (charged t c.args.sheet.now)) c.standard-tree.ensures.tree

@@ -7,8 +7,8 @@ use Rattle.session.proofs.run.answer_root.Goals.{in-Ok, in-Err}
 
 pub returns : goal.returns
 returns c =
-    let told = subst (Narrowed c.args.charges.now) c.in-Some.is c.in-ok-narrow.ensures in
-    let value = c.root.ensures.value ∙ ap (root_answer c.args.table.now) (c.as-slice.ensures.value ∙ told.1) in
+    let told = subst (Narrowed c.args.charges.now) c.in-Some.is c.in_ok-narrow.ensures in
+    let value = c.root.ensures.value ∙ ap (root_answer c.args.table.now) (c.as_slice.ensures.value ∙ told.1) in
     elim c.match-root.branch [
       | in-Ok w ↦ subst (RootAnswered c.args.charges.now c.args.table.now) (sym w.result-is) (told.0, sym value ∙ w.in-Ok.is)
       | in-Err w ↦ subst (RootAnswered c.args.charges.now c.args.table.now) (sym w.result-is) (told.0, sym value ∙ w.in-Err.is)

@@ -5,9 +5,9 @@ use Rattle.std.proofs.ByRecursion.{All-from_get_or}
 use Rattle.session.specs.Runs.{Narrowed}
 use Rattle.session.proofs.run.answer_table.Goals as goal
 
-pub returns-in-default : goal.returns-in-default
-returns-in-default c = (
-  λ law. subst (Narrowed c.args.entries.now) c.in-default.is c.in-ok-narrow.ensures (All-from_get_or (λ n. n < 2 ^ 32) c.args.entries.now 0 (λ k within. omega (arith, above_in_range c.args.size c.args.entries.now law k within))),
+pub returns-in_default : goal.returns-in_default
+returns-in_default c = (
+  λ law. subst (Narrowed c.args.entries.now) c.in_default.is c.in_ok-narrow.ensures (All-from_get_or (λ n. n < 2 ^ 32) c.args.entries.now 0 (λ k within. omega (arith, above_in_range c.args.size c.args.entries.now law k within))),
   refl,
   refl,
 )

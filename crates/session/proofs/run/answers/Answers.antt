@@ -6,7 +6,7 @@ use Rattle.session.proofs.run.answers.Goals as goal
 
 pub returns : goal.returns
 returns c = (
-  map said (vec_items c.in-ok-statements.statements),
-  c.in-ok-statements.ensures.meaning,
-  subst (λ l. Started (map said l) (vec_items c.in-ok-run.field-0)) c.as-slice.ensures.value c.in-ok-run.ensures,
+  map said (vec_items c.in_ok-statements.statements),
+  c.in_ok-statements.ensures.meaning,
+  subst (λ l. Started (map said l) (vec_items c.in_ok-run.field-0)) c.as_slice.ensures.value c.in_ok-run.ensures,
 )

@@ -11,7 +11,7 @@ returns-then-n-gt-LARGEST c all = omega (arith, All-get_or (λ n. n < 2 ^ 32) c.
 pub loop-n-preserved : goal.loop-n-preserved
 loop-n-preserved c =
     let n = get_or c.args.numbers.now c.loop-n.n-index 0 in (
-      c.in-ok-push.ensures.items ∙ ap (λ l. l ++ n ∷ []) c.loop-n.invariant.0 ∙ sym (take_more c.args.numbers.now c.loop-n.n-index 0 c.loop-n-test.true),
+      c.in_ok-push.ensures.items ∙ ap (λ l. l ++ n ∷ []) c.loop-n.invariant.0 ∙ sym (take_more c.args.numbers.now c.loop-n.n-index 0 c.loop-n-test.true),
       All-more (λ n. n < 2 ^ 32) c.args.numbers.now c.loop-n.n-index 0 c.loop-n-test.true c.loop-n.invariant.1 (omega arith),
     )
 

@@ -10,8 +10,8 @@ use Rattle.session.proofs.run.run.Goals as goal
 pub loop-statement-preserved : goal.loop-statement-preserved
 loop-statement-preserved c =
     let first : State = record { table = c.in-Ok.table; sheet = c.new-2.result } in
-    ran_more c.args.statements.now c.loop-statement.statement-index c.statement-item.result (vec_items c.loop-statement.answers) (vec_items c.push.new.self) first c.loop-statement.state c.answer-one.new.state c.in-ok-answer-one.field-0
-    c.loop-statement-test.true c.statement-item.is c.in-ok-push.ensures.items c.loop-statement.invariant c.in-ok-answer-one.ensures
+    ran_more c.args.statements.now c.loop-statement.statement-index c.statement-item.result (vec_items c.loop-statement.answers) (vec_items c.push.new.self) first c.loop-statement.state c.answer_one.new.state c.in_ok-answer_one.field-0
+    c.loop-statement-test.true c.statement-item.is c.in_ok-push.ensures.items c.loop-statement.invariant c.in_ok-answer_one.ensures
 
 pub returns : goal.returns
 returns c =

@@ -20,13 +20,13 @@ pub returns-in-RootRefused-clause-writes : goal.returns-in-RootRefused-clause-wr
 returns-in-RootRefused-clause-writes g c plain ok = written _ _ _ c.in-RootRefused.is (c.write-in-RootRefused.ensures.writes plain ok)
 
 pub returns-in-ChargeOutOfRange-clause-writes : goal.returns-in-ChargeOutOfRange-clause-writes
-returns-in-ChargeOutOfRange-clause-writes g c plain ok = written _ _ _ c.in-ChargeOutOfRange.is (c.write-str.ensures.writes plain ok)
+returns-in-ChargeOutOfRange-clause-writes g c plain ok = written _ _ _ c.in-ChargeOutOfRange.is (c.write_str.ensures.writes plain ok)
 
 pub returns-in-TotalRefused-clause-writes : goal.returns-in-TotalRefused-clause-writes
 returns-in-TotalRefused-clause-writes g c plain ok = written _ _ _ c.in-TotalRefused.is (c.write-in-TotalRefused.ensures.writes plain ok)
 
 pub returns-in-TotalOutOfRange-clause-writes : goal.returns-in-TotalOutOfRange-clause-writes
-returns-in-TotalOutOfRange-clause-writes g c plain ok = written _ _ _ c.in-TotalOutOfRange.is (c.write-str-in-TotalOutOfRange.ensures.writes plain ok)
+returns-in-TotalOutOfRange-clause-writes g c plain ok = written _ _ _ c.in-TotalOutOfRange.is (c.write_str-in-TotalOutOfRange.ensures.writes plain ok)
 
 pub returns-in-Priced-clause-writes : goal.returns-in-Priced-clause-writes
 returns-in-Priced-clause-writes g c plain ok = written _ _ _ c.in-Priced.is (c.write-in-Priced.ensures.writes plain ok)
