@@ -1,8 +1,7 @@
 -- Whether a table is lawful, as a test that antt computes. Assumes nothing.
-use Rattle.std.proofs.Common.{◌≡◌, ℕ, zero, suc, ◌+◌, ◌*◌, ◌<◌, ◌≤◌, Bool, true, false, ◌&&◌, eqb, ltb, List, length, Decides, refl, arith}
-use Rattle.std.proofs.lemmas.Bool.{true≢false}
+use Rattle.std.proofs.Common.{◌≡◌, ℕ, zero, suc, ◌+◌, ◌*◌, ◌<◌, Bool, true, false, ◌&&◌, eqb, ltb, List, length, Decides, refl, arith}
 use Rattle.std.proofs.lemmas.Bool.Decides.{Decides-and, Decides-eqb, Decides-like, Decides-ltb, Decides-below_and, not_from_Decides}
-use Rattle.correlation.specs.Tables.{most_branches, above_count, entry, excess_of_row, RowCondition, LawfulAbove}
+use Rattle.correlation.specs.Tables.{most_branches, above_count, entry, excess_of_row, LawfulAbove}
 use Rattle.correlation.proofs.Lawful.{lawful_from_rows}
 
 -- the test passes at each number below n

@@ -1,7 +1,6 @@
 -- What makes a table lawful. Assumes nothing.
-use Rattle.std.proofs.Common.{◌≡◌, ℕ, zero, suc, ◌+◌, ◌-◌, ◌*◌, ◌<◌, ◌≤◌, min, max, cond, eqb, List, length, get_or, take, replicate, sym, refl, ap, ◌∙◌, subst, ap₂, ⊎_elim, arith, get_or-take}
+use Rattle.std.proofs.Common.{◌≡◌, ℕ, zero, suc, ◌-◌, ◌*◌, ◌<◌, ◌≤◌, min, max, cond, eqb, List, length, get_or, take, replicate, sym, refl, ap, ◌∙◌, subst, ap₂, ⊎_elim, arith, get_or-take}
 use Rattle.std.proofs.lemmas.Bool.{cases_eq, eq-eqb, ne_eqb, cond-true, cond-false, cond_both}
-use Rattle.correlation.specs.Sums.{sum_below, sum_but}
 use Rattle.correlation.specs.Tables.{Branches, Within, InRange, RowCondition, Lawful, LawfulAbove, above_count, place, entry, excess_of_row}
 use Rattle.correlation.proofs.Laws.{le_from_squares}
 use Rattle.correlation.proofs.Places.{entry_own, entry_off, entry_above, entry_symmetric, place_of_two, place_onto}

@@ -1,5 +1,5 @@
 -- The least root exists, and the laws of roots under a lawful table. Assumes nothing.
-use Rattle.std.proofs.Common.{◌≡◌, ℕ, zero, suc, ◌+◌, ◌*◌, ◌/◌, ◌%◌, ◌<◌, ◌≤◌, min, Bool, true, false, cond, leb, sym, refl, ap, ◌∙◌, subst, ap₂, ⊎_elim, le_trans, mul-le-mul_right, mul-le-mul, mul-le-mul_left, arith}
+use Rattle.std.proofs.Common.{◌≡◌, ℕ, zero, suc, ◌+◌, ◌*◌, ◌/◌, ◌%◌, ◌<◌, ◌≤◌, min, leb, sym, ap, ◌∙◌, ⊎_elim, le_trans, mul-le-mul_right, mul-le-mul, mul-le-mul_left, arith}
 use Rattle.std.proofs.lemmas.Bool.{cases_lt, leb-true, leb-false, cond_both}
 use Rattle.correlation.specs.Sums.{sum_below}
 use Rattle.correlation.specs.Tables.{Lawful}

@@ -1,8 +1,8 @@
 -- A lawful table does not magnify: the weighted sum of a row, squared, is at most 100 times the form. Assumes nothing.
-use Rattle.std.proofs.Common.{◌≡◌, ℕ, ◌+◌, ◌-◌, ◌*◌, ◌<◌, ◌≤◌, cond, eqb, sym, refl, ap, ◌∙◌, ap₂, ⊎_elim, le_trans, mul-le-mul_right, mul_comm, mul-le-mul, mul-le-mul_left, arith}
+use Rattle.std.proofs.Common.{◌≡◌, ℕ, ◌+◌, ◌-◌, ◌*◌, ◌<◌, ◌≤◌, cond, eqb, sym, refl, ap, ◌∙◌, ap₂, ⊎_elim, mul-le-mul_right, mul_comm, mul-le-mul_left, arith}
 use Rattle.std.proofs.lemmas.Bool.{cases_eq, cases_lt, eq-eqb, ne_eqb, cond-true, cond-false}
 use Rattle.correlation.specs.Sums.{sum_below}
-use Rattle.correlation.specs.Tables.{Lawful, excess_of_row}
+use Rattle.correlation.specs.Tables.{Lawful}
 use Rattle.correlation.specs.Roots.{form}
 use Rattle.correlation.proofs.Sums.{sum_cong, sum_mono, sum_mono_at, sum_add, sum_mul, sum_mul_right, sum_swap, sum_product, sum_twice}
 

@@ -1,5 +1,5 @@
 -- Where the entries above the diagonal stand. Assumes nothing.
-use Rattle.std.proofs.Common.{◌≡◌, ℕ, zero, suc, ◌+◌, ◌-◌, ◌*◌, ◌/◌, ◌<◌, ◌≤◌, min, max, cond, eqb, List, length, get_or, set, sym, refl, ap, ◌∙◌, subst, ⊎_elim, le_refl, mul-le-mul_right, mul-le-mul_left, arith, get_or-set_other, get_or-set_same}
+use Rattle.std.proofs.Common.{◌≡◌, ℕ, zero, suc, ◌+◌, ◌-◌, ◌*◌, ◌/◌, ◌<◌, ◌≤◌, min, max, eqb, List, length, get_or, set, sym, refl, ap, ◌∙◌, ⊎_elim, le_refl, mul-le-mul_right, arith, get_or-set_other, get_or-set_same}
 use Rattle.std.proofs.lemmas.Bool.{cases_lt, cases_eq, cases_order, eq-eqb, ne_eqb, cond-true, cond-false}
 use Rattle.correlation.specs.Tables.{most_branches, start_of_row, above_count, place, entry, square_entry, Copied}
 

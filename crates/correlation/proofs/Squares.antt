@@ -1,8 +1,8 @@
 -- A square that mirrors itself is as lawful as its part above the diagonal. Assumes nothing.
-use Rattle.std.proofs.Common.{◌≡◌, ℕ, ◌*◌, ◌<◌, ◌≤◌, List, length, get_or, take, Ok, Err, Result, sym, refl, ap, ◌∙◌, subst, ⊎_elim, arith, length-take-le, get_or-take}
+use Rattle.std.proofs.Common.{◌≡◌, ℕ, ◌*◌, ◌<◌, ◌≤◌, List, length, take, Ok, Err, Result, sym, ◌∙◌, subst, ⊎_elim, length-take-le, get_or-take}
 use Rattle.std.proofs.lemmas.Bool.{cases_order}
 use Rattle.refusals.specs.declared.Refusal.{Refusal}
-use Rattle.correlation.specs.Answers.{entry_of, Replaced, HasAbove, HasSquare}
+use Rattle.correlation.specs.Answers.{Replaced, HasAbove, HasSquare}
 use Rattle.correlation.specs.Tables.{Within, Diagonal, Symmetric, LawfulAbove, LawfulSquare, above_count, place, entry, square_entry, Copied}
 use Rattle.correlation.specs.declared.table.Table.{Table}
 use Rattle.correlation.proofs.Lawful.{lawful_cong, entry_take}

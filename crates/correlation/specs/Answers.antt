@@ -1,7 +1,7 @@
 -- What a table stands for, and what each call of it answers.
 use Rattle.std.specs.Prelude.{◌≡◌, ℕ, cond, ◌&&◌, List, length, take, Some, None, Ok, Err, Option, Result, ◌==◌, nat_lt, slice_index}
 use Rattle.correlation.specs.Roots.{root}
-use Rattle.correlation.specs.Tables.{Branches, Within, LawfulAbove, LawfulSquare, above_count, entry, square_entry}
+use Rattle.correlation.specs.Tables.{Branches, Within, above_count, entry, square_entry}
 use Rattle.correlation.specs.declared.table.Table.{Table}
 use Rattle.refusals.specs.declared.Refusal.{Refusal}
 use Rattle.refusals.specs.declared.Refusal.TheVariants.{TableNotLawful}

@@ -2,7 +2,7 @@
 use Rattle.std.proofs.Common.{◌≡◌, ℕ, ◌*◌, ◌/◌, ◌≤◌, ℤ, pos, negsuc, ◌≤ℤ◌, Ok, Result, refl, ap, mul-le-mul_right, div-mul-le_self, le_of_mul-le-mul_right, arith}
 use native.Mathlib.Nat.{div-le_of_le-mul}
 use Rattle.limits.specs.Capital.{unless_below, bins_of, all_of}
-use Rattle.limits.specs.Rules.{Counts, SameCount, counted_answer}
+use Rattle.limits.specs.Rules.{Counts, counted_answer}
 use Rattle.modules.specs.declared.sheet.Sheet.{Sheet}
 use Rattle.refusals.specs.declared.Refusal.{Refusal}
 use Rattle.std.proofs.lemmas.Nat.{le-div}

@@ -1,5 +1,5 @@
 -- The capital of a sheet, by its bins.
-use Rattle.std.specs.Prelude.{ℕ, ◌+◌, ◌≤◌, ℤ, pos, negsuc, Ok, Err, Result}
+use Rattle.std.specs.Prelude.{ℕ, ◌+◌, ℤ, pos, negsuc, Ok, Err, Result}
 use Rattle.limits.specs.declared.bins.Bins.{Bins}
 use Rattle.modules.specs.Sheets.{capped_of}
 use Rattle.modules.specs.declared.sheet.Sheet.{Sheet}

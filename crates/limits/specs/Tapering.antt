@@ -1,5 +1,5 @@
 -- Amounts that taper: how they are made. Assumes nothing.
-use Rattle.std.specs.Prelude.{◌≡◌, ℕ, ◌+◌, ◌*◌, ◌≤◌, min}
+use Rattle.std.specs.Prelude.{◌≡◌, ℕ, ◌+◌, ◌*◌, min}
 use Rattle.std.proofs.Common.{ap, ⊎_elim, mul-le-mul_left, le_of_lt, arith}
 use Rattle.limits.specs.Rules.{Tapers}
 use Rattle.std.proofs.lemmas.Bool.{cases_lt}

@@ -1,5 +1,4 @@
 -- What the five kinds charge for a tree keeps within its bounds. Assumes nothing.
-use Rattle.std.proofs.Common.{ℕ, List}
 use Rattle.modules.specs.Answers.{Bounded, BoundedAll}
 use Rattle.modules.specs.Bounds.{Tabled, TabledAll}
 use Rattle.modules.specs.Charged.{charged, charged_all}

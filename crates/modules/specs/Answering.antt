@@ -3,7 +3,7 @@ use Rattle.std.specs.Prelude.{◌≡◌, ℕ, ◌+◌, ◌^◌, ◌<◌, ◌≤�
 use Rattle.std.proofs.Common.{sym, ap, subst, subst₂, ◌∙◌, append_assoc, arith, length-append}
 use Rattle.refusals.specs.declared.Refusal.{Refusal}
 use Rattle.refusals.specs.declared.Refusal.TheVariants.{GrossTooLarge, TooManyRoundings}
-use Rattle.std.proofs.lemmas.Bool.{leb-true, le-leb, cond-true, cond-false}
+use Rattle.std.proofs.lemmas.Bool.{leb-true, le-leb, cond-true}
 use Rattle.std.proofs.lemmas.List.Sums.{sum_by-cons}
 use Rattle.modules.specs.Answers.{Priced, Within, Bounded, BoundedAll, most_gross, most_roundings, gross_answer, answer_of, charge_of, charge_answer}
 use Rattle.modules.specs.Bounds.{Tabled, TabledAll}

@@ -1,9 +1,9 @@
 -- What a risk module answers at a sheet, and what whoever brings one must show.
-use Rattle.std.specs.Prelude.{◌≡◌, ℕ, ◌+◌, ◌*◌, ◌≤◌, cond, List, [], ◌∷◌, Ok, Err, Result, nat_le}
+use Rattle.std.specs.Prelude.{ℕ, ◌+◌, ◌*◌, ◌≤◌, cond, List, [], ◌∷◌, Ok, Err, Result, nat_le}
 use Rattle.refusals.specs.declared.Refusal.{Refusal}
 use Rattle.refusals.specs.declared.Refusal.TheVariants.{GrossTooLarge, TooManyRoundings}
 use Rattle.modules.specs.Bounds.{Floor, Ceiling}
-use Rattle.modules.specs.Trees.{Tree, Forest, none, more, gross, gross_all, roundings, roundings_all}
+use Rattle.modules.specs.Trees.{Tree, Forest, none, more, gross, roundings}
 use Rattle.modules.specs.declared.answer.Charge.{Charge}
 use Rattle.modules.specs.declared.sheet.Sheet.{Sheet}
 

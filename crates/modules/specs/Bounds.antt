@@ -1,5 +1,5 @@
 -- Floors and ceilings of a tree: fractions w/k that its exact value is not below, and not above.
-use Rattle.std.specs.Prelude.{◌≡◌, ℕ, ◌+◌, ◌*◌, ◌≤◌, leb, ◌⊎◌, List, [], ◌∷◌, MatchBool, sum}
+use Rattle.std.specs.Prelude.{◌≡◌, ℕ, ◌+◌, ◌*◌, ◌≤◌, ◌⊎◌, List, [], ◌∷◌, MatchBool, sum}
 use Rattle.correlation.specs.Answers.{charge_of_branch}
 use Rattle.correlation.specs.Roots.{form}
 use Rattle.correlation.specs.Tables.{Lawful, entry}

@@ -1,5 +1,5 @@
 -- The charge of each kind keeps within the bounds of its tree, if the charges of its branches do. Assumes nothing.
-use Rattle.std.specs.Prelude.{◌≡◌, ℕ, zero, suc, ◌+◌, ◌*◌, ◌<◌, ◌≤◌, max, Bool, true, false, cond, List, [], ◌∷◌, length, MatchBool, sum, refl}
+use Rattle.std.specs.Prelude.{◌≡◌, ℕ, zero, suc, ◌+◌, ◌*◌, ◌≤◌, max, Bool, true, false, cond, List, [], ◌∷◌, length, MatchBool, sum, refl}
 use Rattle.std.proofs.Common.{sym, ap, subst, ◌∙◌, ⊎_elim, mul-le-mul_left, arith}
 use Rattle.correlation.proofs.Laws.{root_laws, le_from_squares}
 use Rattle.correlation.proofs.Sums.{sum_add, sum_mono, sum_mul}
@@ -10,7 +10,7 @@ use Rattle.correlation.specs.Sums.{sum_below}
 use Rattle.correlation.specs.Tables.{Lawful, entry}
 use Rattle.std.proofs.lemmas.List.Sums.{sum_by-cons}
 use Rattle.std.proofs.lemmas.Bool.{cases_lt}
-use Rattle.modules.specs.Answers.{Priced, Within, Bounded, BoundedAll}
+use Rattle.modules.specs.Answers.{Priced, Bounded, BoundedAll}
 use Rattle.modules.specs.Bounds.{Floor, Floors, Ceiling, Ceilings}
 use Rattle.modules.specs.Sheets.{total_of, line_units}
 use Rattle.modules.specs.Trees as trees

@@ -1,5 +1,5 @@
 -- Sums and forms of lists of charges. Assumes nothing.
-use Rattle.std.specs.Prelude.{◌≡◌, ℕ, zero, suc, ◌+◌, ◌*◌, ◌<◌, ◌≤◌, List, [], ◌∷◌, length, sum, refl}
+use Rattle.std.specs.Prelude.{◌≡◌, ℕ, ◌+◌, ◌*◌, ◌<◌, ◌≤◌, List, [], ◌∷◌, length, sum, refl}
 use Rattle.std.proofs.Common.{sym, ap, ◌∙◌, mul-le-mul, mul-le-mul_left, arith}
 use Rattle.correlation.proofs.Sums.{sum_mono, sum_cong_twice, sum_mul, sum_cong, sum_first}
 use Rattle.correlation.specs.Answers.{charge_of_branch}

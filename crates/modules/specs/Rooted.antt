@@ -1,5 +1,5 @@
 -- The tree and the charge of a root over branches.
-use Rattle.std.specs.Prelude.{◌≡◌, ℕ, Bool, true, false, cond, ◌⊎◌, List, Ok, Err, Result, ◌==◌, ◌≢◌}
+use Rattle.std.specs.Prelude.{◌≡◌, ℕ, cond, ◌⊎◌, List, Ok, Err, Result, ◌==◌, ◌≢◌}
 use Rattle.correlation.specs.Answers.{size_of, above_of, entry_of, charge_of_branch}
 use Rattle.correlation.specs.Roots as roots
 use Rattle.correlation.specs.declared.table.Table.{Table}

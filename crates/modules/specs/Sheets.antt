@@ -1,5 +1,5 @@
 -- What a sheet says of lines and bins, and what setting one of them leaves.
-use Rattle.std.specs.Prelude.{◌≡◌, ℕ, ◌+◌, ◌-◌, ◌*◌, ◌/◌, ◌≤◌, cond, ◌&&◌, List, set, replicate, ℤ, pos, Some, None, Ok, Err, Option, Result, nat_le, slice_index, slice_set}
+use Rattle.std.specs.Prelude.{◌≡◌, ℕ, ◌+◌, ◌-◌, ◌*◌, ◌/◌, ◌≤◌, cond, ◌&&◌, replicate, ℤ, pos, Some, None, Ok, Err, Option, Result, nat_le, slice_index, slice_set}
 use Rattle.modules.specs.declared.sheet.Sheet.{Sheet}
 use Rattle.refusals.specs.declared.Refusal.{Refusal}
 use Rattle.refusals.specs.declared.Refusal.TheVariants.{UnknownLineOrBin, ValueOutOfRange}

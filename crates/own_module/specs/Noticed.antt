@@ -1,5 +1,5 @@
 -- What the notice counts is counted as by a limit rule. Assumes nothing.
-use Rattle.std.specs.Prelude.{ℕ, ◌+◌, ◌*◌, min}
+use Rattle.std.specs.Prelude.{◌+◌, ◌*◌, min}
 use Rattle.std.proofs.Common.{arith}
 use Rattle.limits.specs.Counting.{basket_tapers, tier_one_tapers, tier_two_tapers}
 use Rattle.limits.specs.Tapering.{fixed, share, added, lesser, same}

@@ -1,5 +1,5 @@
 -- A ratio is never above what is counted against a smaller required capital. Assumes nothing.
-use Rattle.std.proofs.Common.{◌≡◌, ℕ, ◌+◌, ◌*◌, ◌/◌, ◌^◌, ◌<◌, ◌≤◌, Bool, true, false, cond, eqb, leb, get_or, ℤ, pos, negsuc, ◌≤ℤ◌, IfOk, Ok, Err, Result, sym, refl, ap, subst, mul-le-mul_right, mul-le-mul_left, div-mul-le_self, le_of_mul-le-mul_right, arith, w64, Fits, SFits}
+use Rattle.std.proofs.Common.{◌≡◌, ℕ, ◌*◌, ◌/◌, ◌^◌, ◌<◌, ◌≤◌, Bool, true, false, cond, eqb, leb, get_or, ℤ, pos, negsuc, ◌≤ℤ◌, IfOk, Ok, Err, Result, sym, refl, ap, subst, mul-le-mul_right, mul-le-mul_left, div-mul-le_self, le_of_mul-le-mul_right, arith, w64, Fits, SFits}
 use native.Mathlib.Nat.{mul-div-le}
 use Rattle.limits.specs.Capital.{bins_of, all_of, whole, unless_below}
 use Rattle.limits.specs.Rules.{Counts}
@@ -15,7 +15,7 @@ use Rattle.refusals.specs.declared.Refusal.{Refusal}
 use Rattle.refusals.specs.declared.Refusal.TheVariants.{RequiredIsZero}
 use Rattle.required.specs.Exact.{exact_figure, figure_unit}
 use Rattle.required.specs.declared.settings.Settings.{Settings}
-use Rattle.std.proofs.lemmas.Bool.{leb-true, eqb-false, cond_both}
+use Rattle.std.proofs.lemmas.Bool.{leb-true, eqb-false}
 
 whole_small : (z : ℤ) → SFits w64 z → whole z < 2 ^ 63
 whole_small (pos n) f = f.sfits

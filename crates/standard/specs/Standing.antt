@@ -1,10 +1,9 @@
 -- The tables of the standard tree are lawful, and its roundings are counted. Assumes nothing.
-use Rattle.std.specs.Prelude.{◌≡◌, refl, Bool, true, false, cond, ℕ, ◌+◌}
+use Rattle.std.specs.Prelude.{◌≡◌, refl, Bool, true, false, cond, ℕ}
 use Rattle.std.proofs.Common.{arith}
 use Rattle.correlation.proofs.Computed.{lawful_by}
 use Rattle.modules.specs.Bounds.{Tabled}
-use Rattle.modules.specs.Trees.{Tree, first_taken, roundings}
-use Rattle.modules.specs.declared.sheet.Sheet.{Sheet}
+use Rattle.modules.specs.Trees.{Tree, first_taken}
 use Rattle.standard.specs.Standard.{TablesLawful, Twenty, top_entries, up_entries, down_entries, shares_entries, emerging_entries, equity_tree, up_tree, down_tree}
 
 pub tables_lawful : TablesLawful

@@ -92,27 +92,26 @@ mod tests {
         table: &mut Table,
         size: usize,
         square: &[u32],
-    ) -> Result<(), Fail> {
-        assert!(rt; table.replace(size, square).is_err());
+        fault: &str,
+    ) {
+        assert!(rt; table.replace(size, square).is_err(), "{fault}");
         assert_eq!(rt; table.size(), 2);
         assert_eq!(rt; table.entry(0, 1), Some(30));
-        Ok(())
     }
 
     #[test]
     fn squares_not_lawful(rt: HostRuntime) -> Result<(), Fail> {
         let mut table = Table::new(2)?;
         table.replace_above(2, &[30])?;
-        square_fails(&rt, &mut table, 0, &[]).note("size 0")?;
-        square_fails(&rt, &mut table, 9, &[0; 81]).note("size 9")?;
-        square_fails(&rt, &mut table, 2, &[100, 0, 0]).note("too few")?;
-        square_fails(&rt, &mut table, 2, &[100, 0, 0, 100, 0]).note("too many")?;
-        square_fails(&rt, &mut table, 2, &[100, 101, 101, 100]).note("above 100")?;
-        square_fails(&rt, &mut table, 2, &[99, 0, 0, 100]).note("diagonal")?;
-        square_fails(&rt, &mut table, 2, &[100, 10, 11, 100]).note("not symmetric")?;
-        square_fails(&rt, &mut table, 3, &[100, 0, 71, 0, 100, 71, 71, 71, 100]).note(
-            "row condition",
-        )
+        square_fails(&rt, &mut table, 0, &[], "size 0");
+        square_fails(&rt, &mut table, 9, &[0; 81], "size 9");
+        square_fails(&rt, &mut table, 2, &[100, 0, 0], "too few");
+        square_fails(&rt, &mut table, 2, &[100, 0, 0, 100, 0], "too many");
+        square_fails(&rt, &mut table, 2, &[100, 101, 101, 100], "above 100");
+        square_fails(&rt, &mut table, 2, &[99, 0, 0, 100], "diagonal");
+        square_fails(&rt, &mut table, 2, &[100, 10, 11, 100], "not symmetric");
+        square_fails(&rt, &mut table, 3, &[100, 0, 71, 0, 100, 71, 71, 71, 100], "row condition");
+        Ok(())
     }
 
     // Refused, and the table is as it stood.
@@ -121,21 +120,22 @@ mod tests {
         table: &mut Table,
         size: usize,
         entries: &[u32],
-    ) -> Result<(), Fail> {
-        assert!(rt; table.replace_above(size, entries).is_err());
+        fault: &str,
+    ) {
+        assert!(rt; table.replace_above(size, entries).is_err(), "{fault}");
         assert_eq!(rt; table.size(), 1);
-        Ok(())
     }
 
     #[test]
     fn above_not_lawful(rt: HostRuntime) -> Result<(), Fail> {
         let mut table = Table::new(1)?;
-        above_fails(&rt, &mut table, 0, &[]).note("size 0")?;
-        above_fails(&rt, &mut table, 9, &[0; 36]).note("size 9")?;
-        above_fails(&rt, &mut table, 3, &[0, 0]).note("too few")?;
-        above_fails(&rt, &mut table, 1, &[0]).note("too many")?;
-        above_fails(&rt, &mut table, 2, &[u32::MAX]).note("above 100")?;
-        above_fails(&rt, &mut table, 3, &[0, 100, 100]).note("row condition")
+        above_fails(&rt, &mut table, 0, &[], "size 0");
+        above_fails(&rt, &mut table, 9, &[0; 36], "size 9");
+        above_fails(&rt, &mut table, 3, &[0, 0], "too few");
+        above_fails(&rt, &mut table, 1, &[0], "too many");
+        above_fails(&rt, &mut table, 2, &[u32::MAX], "above 100");
+        above_fails(&rt, &mut table, 3, &[0, 100, 100], "row condition");
+        Ok(())
     }
 
     #[test]

@@ -1,10 +1,10 @@
 -- Words are refused exactly where they read as no tree, and by one refusal. Assumes nothing.
-use Rattle.std.proofs.Common.{◌≡◌, ℕ, suc, ◌<◌, ◌≤◌, List, [], ◌++◌, length, Ok, Err, Result, sym, refl, ap, ◌∙◌, subst, inl, inr, append-nil, arith}
+use Rattle.std.proofs.Common.{◌≡◌, ℕ, suc, ◌≤◌, List, [], ◌++◌, length, Ok, Err, Result, sym, ap, ◌∙◌, subst, inl, inr, append-nil, arith}
 use Rattle.modules.specs.Trees.{Tree}
 use Rattle.refusals.specs.declared.Refusal.{Refusal}
 use Rattle.refusals.specs.declared.Refusal.TheVariants.{WordsLeftOver}
 use Rattle.words.specs.Faults.{Fault, LeftOver, Refused, RefusedExactly}
-use Rattle.words.specs.Grammar.{Branch, Branches, Reads}
+use Rattle.words.specs.Grammar.{Branches, Reads}
 use Rattle.words.specs.Heads.{HeadOf}
 use Rattle.words.specs.Items.{Opened, Shows, BranchRead, FirstBranch, OwnBranch, ReadAnswer}
 use Rattle.words.specs.Words.{most_words}

@@ -1,14 +1,13 @@
 -- Words begin with one head at most, and a tree has one. Assumes nothing.
-use Rattle.std.proofs.Common.{◌≡◌, ℕ, zero, suc, ◌+◌, ◌*◌, ◌<◌, ◌≤◌, List, [], ◌∷◌, ◌++◌, length, get_or, sym, refl, ap, ◌∙◌, subst, inl, inr, ⊎_elim, append_assoc, append-nil, arith}
+use Rattle.std.proofs.Common.{◌≡◌, ℕ, suc, List, [], ◌∷◌, ◌++◌, length, get_or, sym, refl, ap, ◌∙◌, append_assoc, append-nil, arith}
 use mathlib.Core.List.{tail}
 use Rattle.correlation.proofs.Places.{place_onto, entry_above}
-use Rattle.correlation.specs.Tables.{LawfulAbove, above_count, most_branches}
+use Rattle.correlation.specs.Tables.{LawfulAbove, above_count}
 use Rattle.modules.specs.Trees as trees
 use Rattle.modules.specs.Trees.{Tree, Forest, line, greater, root, choice, none, more, branch_count}
-use Rattle.words.specs.Faults.{Begins}
 use Rattle.words.specs.Grammar.{Branch, Branches}
 use Rattle.words.specs.Heads.{Head, of_line, of_sum, of_greater, of_root, head_words, due, Entered, HeadInRange, HeadLawful, HeadOf, Opens}
-use Rattle.words.specs.Words.{word, entry_words, value_room, line_kind, sum_kind, greater_kind, root_kind, entry_kind, most_entry}
+use Rattle.words.specs.Words.{entry_words}
 
 first : {xs ys : List ℕ} → xs ≡ ys → get_or xs 0 0 ≡ get_or ys 0 0
 first e = ap (λ l. get_or l 0 0) e

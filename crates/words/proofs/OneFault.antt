@@ -1,9 +1,8 @@
 -- Words that begin with a tree have no fault in it, and words have one fault at most. Assumes nothing.
-use Rattle.std.proofs.Common.{◌≡◌, ℕ, zero, suc, ◌+◌, ◌*◌, ◌<◌, ◌≤◌, ◌⊎◌, List, [], ◌∷◌, ◌++◌, length, get_or, sym, refl, ap, ◌∙◌, subst, inl, inr, ⊎_elim, append_assoc, arith, length-append}
-use Rattle.correlation.specs.Tables.{above_count, most_branches}
+use Rattle.std.proofs.Common.{◌≡◌, ℕ, suc, ◌+◌, ◌<◌, ◌≤◌, List, [], ◌∷◌, ◌++◌, length, get_or, sym, refl, ap, ◌∙◌, subst, inl, inr, ⊎_elim, append_assoc, arith}
+use Rattle.correlation.specs.Tables.{above_count}
 use Rattle.modules.specs.Trees.{Tree, Forest, none, more, branch_count}
 use Rattle.refusals.specs.declared.Refusal.{Refusal}
-use Rattle.refusals.specs.declared.Refusal.TheVariants.{WordsEndEarly, KindNotAllowed, ValueOutOfRange, TableNotLawful, TooDeep}
 use Rattle.std.proofs.lemmas.Bool.{cases_order}
 use Rattle.words.specs.Faults.{Begins, NoEntry, EntryFault, WordFault, HeadFault, Fault, Faults}
 use Rattle.words.specs.Grammar.{Branch, Branches}

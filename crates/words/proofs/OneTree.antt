@@ -1,11 +1,11 @@
 -- Words are one tree at most, and say where it ends. Assumes nothing.
-use Rattle.std.proofs.Common.{◌≡◌, ℕ, zero, suc, ◌+◌, ◌≤◌, List, [], ◌∷◌, ◌++◌, sym, refl, ap, ◌∙◌, subst, append_assoc, arith}
+use Rattle.std.proofs.Common.{◌≡◌, ℕ, suc, ◌≤◌, List, [], ◌∷◌, ◌++◌, sym, refl, ap, ◌∙◌, subst, append_assoc, arith}
 use Rattle.modules.specs.Trees as trees
 use Rattle.modules.specs.Trees.{Tree, Forest, line, greater, root, choice, none, more, branch_count}
-use Rattle.words.specs.Grammar.{Branch, Branches, Reads, OneReading}
-use Rattle.words.specs.Heads.{Head, of_line, of_sum, of_greater, of_root, head_words, due, HeadOf, Opens}
+use Rattle.words.specs.Grammar.{Branch, Branches, OneReading}
+use Rattle.words.specs.Heads.{Head, of_line, of_sum, of_greater, of_root, head_words, due, HeadOf}
 use Rattle.words.specs.Words.{word, entry_words, sum_kind, greater_kind, root_kind}
-use Rattle.words.proofs.Heading.{Headed, headed, opens_more, opens_unique}
+use Rattle.words.proofs.Heading.{headed, opens_more, opens_unique}
 
 -- the tree of a head and of the branches behind it
 first_two : Forest → Tree

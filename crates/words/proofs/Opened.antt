@@ -1,5 +1,5 @@
 -- From what opening a head finds to what it says of the words. Assumes nothing.
-use Rattle.std.proofs.Common.{◌≡◌, ℕ, suc, ◌+◌, ◌≤◌, List, [], ◌∷◌, ◌++◌, Ok, Err, Result, sym, refl, ap, ◌∙◌, subst, inl, inr, add-one, lit≤, Bor}
+use Rattle.std.proofs.Common.{◌≡◌, ℕ, ◌+◌, ◌≤◌, List, ◌∷◌, ◌++◌, Ok, Err, Result, sym, refl, ap, ◌∙◌, subst, inr, add-one, lit≤, Bor}
 use Rattle.correlation.specs.Tables.{LawfulAbove, most_branches, above_count}
 use Rattle.refusals.specs.declared.Refusal.{Refusal}
 use Rattle.words.specs.Faults.{Begins, EntryFault}

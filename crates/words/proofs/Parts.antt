@@ -1,5 +1,5 @@
 -- A word and its parts, and the entries at the front of words. Assumes nothing.
-use Rattle.std.proofs.Common.{◌≡◌, ℕ, zero, suc, ◌+◌, ◌-◌, ◌*◌, ◌/◌, ◌%◌, ◌<◌, ◌≤◌, List, [], ◌∷◌, ◌++◌, length, get_or, take, drop, sym, refl, ap, ◌∙◌, ⊎_elim, append_assoc, le_refl, arith, length-append, below_more}
+use Rattle.std.proofs.Common.{◌≡◌, ℕ, suc, ◌+◌, ◌-◌, ◌*◌, ◌/◌, ◌%◌, ◌<◌, ◌≤◌, List, [], ◌∷◌, ◌++◌, length, get_or, take, drop, sym, refl, ap, ◌∙◌, ⊎_elim, append_assoc, le_refl, arith, length-append, below_more}
 use Rattle.correlation.proofs.Places.{row_start_is, above_count_few}
 use Rattle.correlation.specs.Tables.{most_branches, above_count}
 use Rattle.modules.specs.Sheets.{IsLine}

@@ -1,6 +1,6 @@
 -- A head, with as many branches behind it as are due, is a branch of a tree. Assumes nothing.
-use Rattle.std.proofs.Common.{◌≡◌, ℕ, zero, suc, ◌+◌, ◌-◌, ◌<◌, ◌≤◌, List, [], ◌∷◌, ◌++◌, length, take, drop, Ok, Err, Result, sym, refl, ap, ◌∙◌, subst, append_assoc, append-nil, add-one, arith, length-append, Bor}
-use Rattle.correlation.specs.Tables.{LawfulAbove, most_branches}
+use Rattle.std.proofs.Common.{◌≡◌, ℕ, suc, ◌+◌, ◌-◌, ◌≤◌, List, [], ◌∷◌, ◌++◌, length, take, Ok, Err, Result, sym, refl, ap, ◌∙◌, subst, append_assoc, append-nil, add-one, arith, length-append, Bor}
+use Rattle.correlation.specs.Tables.{LawfulAbove}
 use Rattle.modules.specs.Trees as trees
 use Rattle.modules.specs.Trees.{Tree, Forest, line, greater, root, choice, none, more, branch_count}
 use Rattle.refusals.specs.declared.Refusal.{Refusal}
@@ -12,7 +12,7 @@ use Rattle.words.specs.Items.{Shows, OwnItem}
 use Rattle.words.specs.Steps.{BranchesRead}
 use Rattle.words.specs.Words.{word, entry_words, line_kind, sum_kind, greater_kind, root_kind, most_depth}
 use Rattle.words.specs.declared.item.Item.{Item}
-use Rattle.words.proofs.Heading.{Headed, headed}
+use Rattle.words.proofs.Heading.{headed}
 
 -- the tree of a head and of branches
 pub composed : (h : Head) (f : Forest) (depth : ℕ) (bs : List ℕ) → depth ≤ most_depth → HeadInRange h → HeadLawful h → branch_count f ≡ due h → Branches f (suc depth) bs

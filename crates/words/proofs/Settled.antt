@@ -1,10 +1,10 @@
 -- A fault is settled by the words up to its place. Assumes nothing.
-use Rattle.std.proofs.Common.{◌≡◌, ℕ, suc, ◌+◌, ◌<◌, ◌≤◌, ◌⊎◌, List, [], ◌∷◌, ◌++◌, length, sym, refl, ap, ◌∙◌, subst, inl, inr, append_assoc, arith, length-append}
+use Rattle.std.proofs.Common.{◌≡◌, ℕ, suc, ◌+◌, ◌≤◌, List, [], ◌∷◌, ◌++◌, length, sym, refl, ap, ◌∙◌, subst, inl, inr, append_assoc, arith, length-append}
 use Rattle.correlation.specs.Tables.{most_branches, above_count}
 use Rattle.refusals.specs.declared.Refusal.{Refusal}
 use Rattle.refusals.specs.declared.Refusal.TheVariants.{WordsEndEarly}
-use Rattle.words.specs.Faults.{Begins, NoEntry, EntryFault, WordFault, HeadFault, Fault, Faults, LeftOver, Refused}
-use Rattle.words.specs.Heads.{Head, of_line, of_sum, of_greater, of_root, head_words, due, HeadInRange, Opens}
+use Rattle.words.specs.Faults.{Begins, NoEntry, EntryFault, WordFault, HeadFault, Fault, Faults, LeftOver}
+use Rattle.words.specs.Heads.{Head, of_line, of_sum, of_greater, of_root, head_words, HeadInRange, Opens}
 use Rattle.words.specs.Places.{ToldAfter, Placed, LeftToRight}
 use Rattle.words.specs.Words.{word, entry_words, root_kind, entry_kind}
 use Rattle.words.proofs.Parts.{count_few, length_entry_words}

@@ -1,5 +1,5 @@
 -- The words that a tree is written in: a kind in the top four bits, a value below.
-use Rattle.std.specs.Prelude.{◌≡◌, ℕ, ◌+◌, ◌*◌, ◌<◌, ◌≤◌, ◌⊎◌, List, [], ◌∷◌}
+use Rattle.std.specs.Prelude.{◌≡◌, ℕ, ◌+◌, ◌*◌, ◌≤◌, ◌⊎◌, List, [], ◌∷◌}
 use Rattle.correlation.specs.Tables.{most_branches}
 use Rattle.modules.specs.Sheets.{IsLine}
 

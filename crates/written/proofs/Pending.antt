@@ -6,8 +6,7 @@ use Rattle.correlation.specs.Tables.{above_count, entry}
 use Rattle.modules.specs.Answers.{most_gross}
 use Rattle.modules.specs.Charged.{charged_all}
 use Rattle.modules.specs.Sheets.{line_units}
-use Rattle.modules.specs.Trees as trees
-use Rattle.modules.specs.Trees.{Forest, greater, root, none, more, branch_count, gross, gross_all}
+use Rattle.modules.specs.Trees.{Forest, none, more, branch_count, gross, gross_all}
 use Rattle.modules.specs.declared.sheet.Sheet.{Sheet}
 use Rattle.std.proofs.lemmas.List.{at_drop_more}
 use Rattle.std.proofs.lemmas.List.Sums.{sum_by-cons}

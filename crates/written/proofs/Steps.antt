@@ -2,7 +2,7 @@
 use Rattle.std.proofs.Common.{◌≡◌, ℕ, ◌+◌, ◌<◌, ◌≤◌, Bool, true, false, cond, leb, List, ◌∷◌, length, get_or, drop, Ok, Err, Result, sym, refl, ap, ◌∙◌, add-one, arith}
 use Rattle.modules.specs.Answers.{gross_answer, most_gross}
 use Rattle.modules.specs.Sheets.{line_units}
-use Rattle.modules.specs.Trees.{gross, gross_all, roundings_all}
+use Rattle.modules.specs.Trees.{gross_all, roundings_all}
 use Rattle.modules.specs.declared.sheet.Sheet.{Sheet}
 use Rattle.refusals.specs.declared.Refusal.{Refusal}
 use Rattle.refusals.specs.declared.Refusal.TheVariants.{GrossTooLarge}

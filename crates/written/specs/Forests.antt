@@ -3,7 +3,7 @@ use Rattle.std.specs.Prelude.{◌≡◌, ℕ, zero, suc, ◌+◌, ◌≤◌, ◌
 use Rattle.std.proofs.Common.{ap, one-add, arith}
 use Rattle.modules.specs.Bounds.{TabledAll}
 use Rattle.modules.specs.Charged.{charged, charged_all}
-use Rattle.modules.specs.Trees.{Forest, none, more, branch_count, gross, gross_all, roundings, roundings_all}
+use Rattle.modules.specs.Trees.{Forest, none, more, branch_count, gross_all, roundings_all}
 use Rattle.modules.specs.declared.sheet.Sheet.{Sheet}
 use Rattle.written.specs.Reading.{first, behind}
 

@@ -9,13 +9,12 @@ use Rattle.correlation.specs.Tables.{Lawful, LawfulAbove, above_count, entry}
 use Rattle.modules.specs.Bounds.{Tabled, TabledAll}
 use Rattle.modules.specs.Charged.{charged, charged_all}
 use Rattle.modules.specs.Sheets.{line_units}
-use Rattle.modules.specs.Trees as trees
 use Rattle.modules.specs.Trees.{Tree, Forest, none, more, branch_count, gross, gross_all, roundings, roundings_all}
 use Rattle.modules.specs.declared.sheet.Sheet.{Sheet}
 use Rattle.std.proofs.lemmas.List.{append-nil}
 use Rattle.words.specs.Grammar.{Reads}
 use Rattle.words.specs.Words.{line_kind, root_kind, most_words}
-use Rattle.written.specs.Reading.{kind_of_word, value_of, values_of, behind, paired, with_word, forest_of, first_tree, tree_of, Readable}
+use Rattle.written.specs.Reading.{kind_of_word, value_of, values_of, paired, with_word, forest_of, first_tree, tree_of, Readable}
 use Rattle.written.specs.Forests.{first_count, gross_split, roundings_split, tabled_first, tabled_behind}
 use Rattle.written.specs.Sound.{Kind, a_line, a_sum, a_greater, a_root, another, kind_cases, Fits, Sound, branch_stands, with_line, with_sum, with_greater, with_root, with_other}
 

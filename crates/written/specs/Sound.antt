@@ -1,5 +1,5 @@
 -- Words that are a branch stand for its tree, and each of them fits those behind it. Assumes nothing.
-use Rattle.std.specs.Prelude.{◌≡◌, ℕ, suc, ◌+◌, ◌<◌, ◌≤◌, ◌⊎◌, List, [], ◌∷◌, ◌++◌, length, slice_index, refl}
+use Rattle.std.specs.Prelude.{◌≡◌, ℕ, suc, ◌<◌, ◌≤◌, List, [], ◌∷◌, ◌++◌, length, slice_index, refl}
 use Rattle.std.proofs.Common.{sym, ap, subst, ◌∙◌, append_assoc, ⊎_elim, arith, length-append}
 use Rattle.correlation.proofs.Places.{place_onto, entry_above}
 use Rattle.correlation.specs.Tables.{LawfulAbove, above_count}

@@ -1,5 +1,5 @@
 -- What is left to show of `answer_root`.
-use Rattle.std.proofs.Common.{◌≡◌, sym, ap, ◌∙◌, subst}
+use Rattle.std.proofs.Common.{sym, ap, ◌∙◌, subst}
 use Rattle.correlation.specs.Answers.{root_answer}
 use Rattle.session.specs.Runs.{Narrowed, RootAnswered}
 use Rattle.session.proofs.run.answer_root.Goals as goal

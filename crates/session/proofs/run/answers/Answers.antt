@@ -1,5 +1,5 @@
 -- What is left to show of `answers`.
-use Rattle.std.proofs.Common.{map, vec_items, sym, ap, subst}
+use Rattle.std.proofs.Common.{map, vec_items, subst}
 use Rattle.script.specs.Meaning.{said}
 use Rattle.session.specs.Runs.{Started}
 use Rattle.session.proofs.run.answers.Goals as goal

@@ -1,5 +1,5 @@
 -- Each turn finds one entry more.
-use Rattle.std.proofs.Common.{◌≡◌, ℕ, ◌≤◌, List, [], length, sym, refl, ap, ◌∙◌, arith, rules}
+use Rattle.std.proofs.Common.{◌≤◌, length, arith, rules}
 use Rattle.std.proofs.lemmas.Result.{err_from_is_err_and}
 use Rattle.words.proofs.Parts.{entered_length, part_behind, entered_more}
 use Rattle.words.proofs.opening.check_entries.Goals as goal

@@ -1,4 +1,4 @@
-use Rattle.std.proofs.Common.{◌≡◌, ℕ, List, ◌++◌, drop}
+use Rattle.std.proofs.Common.{◌≡◌, ℕ, List, ◌++◌}
 use Rattle.words.specs.Heads.{Entered}
 use Rattle.words.specs.Words.{entry_words}
 use Rattle.words.proofs.opening.check_entries.Given as goal

@@ -1,5 +1,5 @@
 -- The first word is taken apart; what it is not tells the refusal.
-use Rattle.std.proofs.Common.{◌≡◌, ℕ, List, [], length, sym, refl, ap, ◌∙◌, arith}
+use Rattle.std.proofs.Common.{sym, refl, ◌∙◌}
 use Rattle.words.specs.Faults.NoEntry.{ends, kind, value}
 use Rattle.words.proofs.Parts.{begins_with, empty_from_length}
 use Rattle.words.proofs.opening.check_entry.Goals as goal

@@ -1,4 +1,4 @@
-use Rattle.std.proofs.Common.{arith, rules}
+use Rattle.std.proofs.Common.{arith}
 use Rattle.words.proofs.Parts.{count_is, count_few}
 use Rattle.words.proofs.opening.entry_count.Goals as goal
 

@@ -1,7 +1,7 @@
 -- The first word is taken apart; its kind tells the head.
-use Rattle.std.proofs.Common.{◌≡◌, ℕ, ◌≤◌, List, [], sym, refl, ap, ◌∙◌, arith}
+use Rattle.std.proofs.Common.{sym, refl, ◌∙◌, arith}
 use Rattle.std.proofs.lemmas.Result.{err_from_is_err_and}
-use Rattle.words.specs.Faults.HeadFault.{ends, word, entries}
+use Rattle.words.specs.Faults.HeadFault.{ends, word}
 use Rattle.words.specs.Heads.{of_line}
 use Rattle.words.proofs.Parts.{begins_with, empty_from_length, line_in_range, root_in_range}
 use Rattle.words.proofs.Opened.{root_opened}

@@ -1,5 +1,5 @@
 -- The entries that were found are as many as the table has, and stand first.
-use Rattle.std.proofs.Common.{◌≡◌, ℕ, ◌≤◌, List, ◌++◌, sym, refl, ap, ◌∙◌, arith}
+use Rattle.std.proofs.Common.{◌++◌, sym, refl, ap, ◌∙◌, arith}
 use Rattle.std.proofs.lemmas.Result.{err_from_is_err_and}
 use Rattle.words.specs.Words.{entry_words}
 use Rattle.words.proofs.Parts.{entered_length, entered_behind, entered_front}

@@ -1,5 +1,5 @@
 -- A head and as many branches as are due make a branch; a fault of the head, of the table or of the branches is the branch's.
-use Rattle.std.proofs.Common.{◌≡◌, ℕ, suc, ◌+◌, ◌-◌, ◌<◌, ◌≤◌, List, [], ◌∷◌, ◌++◌, length, sym, refl, ap, ◌∙◌, subst, arith}
+use Rattle.std.proofs.Common.{◌-◌, ◌≤◌, [], sym, refl, subst, arith}
 use Rattle.modules.specs.Trees.{none}
 use Rattle.std.proofs.lemmas.Result.{err_from_is_err_and}
 use Rattle.words.specs.Faults.{Fault, Faults}

@@ -1,5 +1,5 @@
 -- What the reader says, once there are not too many words, carries over to any tree that they begin with.
-use Rattle.std.proofs.Common.{Ok, Err, refl, inl, inr}
+use Rattle.std.proofs.Common.{Err, refl, inl}
 use Rattle.refusals.specs.declared.Refusal.TheVariants.{TooManyWords}
 use Rattle.words.specs.Items.{FirstBranch}
 use Rattle.words.specs.Words.{most_words}

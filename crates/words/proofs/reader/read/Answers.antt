@@ -1,5 +1,5 @@
 -- What was read or found wrong, and the laws of every reading.
-use Rattle.std.proofs.Common.{◌≡◌, ◌-◌, List, [], ◌++◌, length, Ok, Err, sym, refl, ap, ◌∙◌, subst, inl, inr, append-nil, arith}
+use Rattle.std.proofs.Common.{◌≡◌, ◌-◌, ◌++◌, length, Ok, Err, sym, ap, ◌∙◌, subst, inr, append-nil, arith}
 use Rattle.refusals.specs.declared.Refusal.TheVariants.{WordsLeftOver}
 use Rattle.std.proofs.lemmas.Result.{err_from_is_err_and}
 use Rattle.std.proofs.lemmas.Bool.{eqb-true, eqb-false}

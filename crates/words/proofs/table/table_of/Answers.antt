@@ -1,5 +1,5 @@
 -- A table is lawful of the values or not, and has no more entries than the largest.
-use Rattle.std.proofs.Common.{◌≡◌, sym, refl, ap, ◌∙◌, arith}
+use Rattle.std.proofs.Common.{refl, arith}
 use Rattle.words.proofs.Parts.{count_few, length_values}
 use Rattle.words.proofs.table.table_of.Goals as goal
 

@@ -1,8 +1,7 @@
 -- Each turn copies one value more.
-use Rattle.std.proofs.Common.{◌≡◌, ◌%◌, ◌<◌, [], ◌∷◌, ◌++◌, length, get_or, take, sym, ap, ◌∙◌, arith, length-set}
+use Rattle.std.proofs.Common.{◌≡◌, ◌<◌, [], ◌∷◌, ◌++◌, length, get_or, take, sym, ap, ◌∙◌, arith, length-set}
 use Rattle.std.proofs.lemmas.List.{take_more, take_more_set, take_all}
 use Rattle.words.specs.Items.{values}
-use Rattle.words.specs.Words.{value_room}
 use Rattle.words.proofs.Parts.{values_push}
 use Rattle.words.proofs.table.values_of.Goals as goal
 

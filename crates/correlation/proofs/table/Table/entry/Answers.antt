@@ -1,5 +1,5 @@
 -- What is left to show of `Table::entry`.
-use Rattle.std.proofs.Common.{◌≡◌, length, arith, rules}
+use Rattle.std.proofs.Common.{◌≡◌, length, rules}
 use Rattle.correlation.proofs.Places.{above_count_few}
 use Rattle.correlation.proofs.table.Table.entry.Goals as goal
 

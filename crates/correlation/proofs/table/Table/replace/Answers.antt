@@ -1,6 +1,5 @@
 -- What is left to show of `Table::replace`.
-use Rattle.std.proofs.Common.{◌≡◌, ◌-◌, ◌≤◌, length, take, sym, ap, ◌∙◌, arith, rules}
-use Rattle.correlation.specs.Tables.{above_count}
+use Rattle.std.proofs.Common.{◌≡◌, ◌≤◌, length, take, ap, arith, rules}
 use Rattle.correlation.proofs.Places.{above_count_few}
 use Rattle.correlation.proofs.Squares.{replaced}
 use Rattle.correlation.proofs.table.Table.replace.Goals as goal

@@ -1,5 +1,5 @@
 -- What is left to show of `Table::root`.
-use Rattle.std.proofs.Common.{◌≡◌, eqb, length, Ok, sym, ap, ◌∙◌, arith, rules}
+use Rattle.std.proofs.Common.{◌≡◌, length, Ok, sym, ap, ◌∙◌, rules}
 use Rattle.std.proofs.lemmas.Bool.{eq-eqb, ne_eqb, cond-true, cond-false}
 use Rattle.correlation.specs.Answers.{size_of, entry_of}
 use Rattle.correlation.specs.Roots.{least_root, RootLaws}

@@ -1,7 +1,7 @@
 -- What is left to show of `lawful_table`.
-use Rattle.std.proofs.Common.{◌≡◌, true, length, sym, refl, ◌∙◌, arith, rules}
+use Rattle.std.proofs.Common.{◌≡◌, length, refl, ◌∙◌, arith, rules}
 use Rattle.std.proofs.lemmas.Bool.{both_ways}
-use Rattle.correlation.specs.Tables.{Branches, above_count, entry, Lawful}
+use Rattle.correlation.specs.Tables.{above_count, entry, Lawful}
 use Rattle.correlation.proofs.Lawful.{lawful_from_rows, above_in_range, stands, lawful_above, above_lawful}
 use Rattle.correlation.proofs.Places.{above_count_few}
 use Rattle.correlation.proofs.table.lawful.lawful_table.Goals as goal
@@ -28,7 +28,7 @@ rows_hold-requires c =
     search rules
 
 pub invariant_of-result : goal.invariant_of-result
-invariant_of-result c = 
+invariant_of-result c =
     let l = law c in
     record { branches = l.branches; range = l.range; diagonal = l.diagonal; symmetric = l.symmetric; rows = l.rows }
 

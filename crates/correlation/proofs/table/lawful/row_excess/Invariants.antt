@@ -1,5 +1,5 @@
 -- What the loop of `row_excess` keeps.
-use Rattle.std.proofs.Common.{◌≡◌, ◌-◌, ◌*◌, ◌≤◌, cond, eqb}
+use Rattle.std.proofs.Common.{◌≡◌, ◌-◌, ◌*◌, ◌≤◌}
 use Rattle.correlation.specs.Sums.{sum_but}
 use Rattle.correlation.specs.Tables.{entry}
 use Rattle.correlation.proofs.table.lawful.row_excess.Given as goal

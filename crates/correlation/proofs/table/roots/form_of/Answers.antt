@@ -1,5 +1,5 @@
 -- What is left to show of `form_of`.
-use Rattle.std.proofs.Common.{ℕ, ◌+◌, ◌*◌, ◌^◌, ◌≤◌, sym, ◌∙◌, ap₂, arith}
+use Rattle.std.proofs.Common.{◌+◌, ◌*◌, ◌^◌, ◌≤◌, sym, ◌∙◌, ap₂, arith}
 use Rattle.std.proofs.lemmas.Nat.{mul-le}
 use Rattle.correlation.specs.Answers.{charge_of_branch}
 use Rattle.correlation.specs.Tables.{entry}

@@ -1,5 +1,5 @@
 -- What is left to show of `weighted`.
-use Rattle.std.proofs.Common.{ℕ, ◌+◌, ◌*◌, ◌^◌, ◌≤◌, sym, ◌∙◌, ap₂, arith}
+use Rattle.std.proofs.Common.{◌+◌, ◌*◌, ◌^◌, ◌≤◌, sym, ◌∙◌, ap₂, arith}
 use Rattle.std.proofs.lemmas.Nat.{mul-le}
 use Rattle.correlation.proofs.Sums.{sum_next}
 use Rattle.correlation.proofs.table.roots.weighted.Goals as goal

@@ -1,6 +1,5 @@
 -- What the loop of `copy_row` keeps.
-use Rattle.std.proofs.Common.{◌≡◌, ◌≤◌, length}
-use Rattle.correlation.specs.Tables.{above_count, start_of_row, place, Copied}
+use Rattle.correlation.specs.Tables.{start_of_row, place, Copied}
 use Rattle.correlation.proofs.table.square.copy_row.Given as goal
 
 abbrev pub invariant-loop-j : goal.invariant-loop-j

@@ -1,6 +1,5 @@
 -- What is left to show of `upper`.
-use Rattle.std.proofs.Common.{◌≡◌, length, sym, ap, subst, add-one, arith, rules}
-use Rattle.correlation.specs.Tables.{start_of_row, Copied}
+use Rattle.std.proofs.Common.{add-one, rules}
 use Rattle.correlation.proofs.Places.{above_count_few}
 use Rattle.correlation.proofs.table.square.upper.Goals as goal
 

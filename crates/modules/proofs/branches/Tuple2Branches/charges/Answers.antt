@@ -1,5 +1,5 @@
 -- What is left to show of `PairBranches::charges`.
-use Rattle.modules.specs.Trees.{sum, more, gross_all, roundings_all}
+use Rattle.modules.specs.Trees.{more, gross_all, roundings_all}
 use Rattle.modules.specs.Gathered.{charges_of}
 use Rattle.modules.specs.Answering.{refused_gross, made_always, added_small, added_is, gathered_is}
 use Rattle.modules.proofs.branches.Tuple2Branches.charges.Goals as goal

@@ -1,5 +1,5 @@
 -- What is left to show of `most`.
-use Rattle.std.proofs.Common.{sym, ap, ◌∙◌, arith}
+use Rattle.std.proofs.Common.{arith}
 use Rattle.std.proofs.lemmas.List.{at_drop_more, at_drop_all}
 use Rattle.modules.specs.Gathered.{largest_of}
 use Rattle.modules.proofs.charges.methods.most.Goals as goal

@@ -1,7 +1,6 @@
 -- What is left to show of `rounded_up`.
-use Rattle.std.proofs.Common.{◌*◌, ◌≤◌, sym, subst, arith}
-use Rattle.modules.specs.Sheets.{units, RoundedUp}
-use Rattle.modules.specs.Units.{units_up}
+use Rattle.std.proofs.Common.{arith}
+use Rattle.modules.specs.Sheets.{units}
 use Rattle.modules.proofs.line.questions.rounded_up.Goals as goal
 
 pub returns : goal.returns
