@@ -87,13 +87,7 @@ mod tests {
     }
 
     // Refused, and the table is as it stood.
-    fn square_fails(
-        rt: &impl Abort,
-        table: &mut Table,
-        size: usize,
-        square: &[u32],
-        fault: &str,
-    ) {
+    fn square_fails(rt: &impl Abort, table: &mut Table, size: usize, square: &[u32], fault: &str) {
         assert!(rt; table.replace(size, square).is_err(), "{fault}");
         assert_eq!(rt; table.size(), 2);
         assert_eq!(rt; table.entry(0, 1), Some(30));
@@ -110,18 +104,18 @@ mod tests {
         square_fails(&rt, &mut table, 2, &[100, 101, 101, 100], "above 100");
         square_fails(&rt, &mut table, 2, &[99, 0, 0, 100], "diagonal");
         square_fails(&rt, &mut table, 2, &[100, 10, 11, 100], "not symmetric");
-        square_fails(&rt, &mut table, 3, &[100, 0, 71, 0, 100, 71, 71, 71, 100], "row condition");
+        square_fails(
+            &rt,
+            &mut table,
+            3,
+            &[100, 0, 71, 0, 100, 71, 71, 71, 100],
+            "row condition",
+        );
         Ok(())
     }
 
     // Refused, and the table is as it stood.
-    fn above_fails(
-        rt: &impl Abort,
-        table: &mut Table,
-        size: usize,
-        entries: &[u32],
-        fault: &str,
-    ) {
+    fn above_fails(rt: &impl Abort, table: &mut Table, size: usize, entries: &[u32], fault: &str) {
         assert!(rt; table.replace_above(size, entries).is_err(), "{fault}");
         assert_eq!(rt; table.size(), 1);
     }
