@@ -1,7 +1,7 @@
 // The capital of a sheet, by its bins, and the parts of it that both rules count alike.
 ghost use Rattle.std.specs.Prelude.{◌≡◌};
 ghost use Rattle.limits.specs.Capital.{unless_below, bins_of};
-ghost use Rattle.limits.specs.Limits.{basket as basket-of, tier_one_counted, tier_two_counted};
+ghost use Rattle.limits.specs.Limits.{basket as basket_of, tier_one_counted, tier_two_counted};
 
 use modules::Sheet;
 use refusals::Refusal;
@@ -57,7 +57,7 @@ impl Bins {
 
     // The other assets, weighted, up to 15% of required capital, in hundredths of a unit.
     pub fn basket(&self, required: u64) -> u128
-        ensures { result ≡ basket-of self.now required 1 }
+        ensures { result ≡ basket_of self.now required 1 }
     {
         let weighted = 50 * u128::from(self.pension)
             + 100 * u128::from(self.deferred)

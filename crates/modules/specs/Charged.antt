@@ -9,7 +9,7 @@ use Rattle.modules.specs.Trees.{Tree, Forest, line, greater, root, choice, none,
 use Rattle.modules.specs.declared.sheet.Sheet.{Sheet}
 
 abbrev mutual
-  -- a line its rounded_up total, a sum its branches' sum, a greater the larger, a root the least whole root, a choice the branch taken
+  -- a line its rounded-up total, a sum its branches' sum, a greater the larger, a root the least whole root, a choice the branch taken
   pub charged : Tree → Sheet → ℕ
   charged (line n) s = line_units s n
   charged (trees.sum f) s = sum (charged_all f s)

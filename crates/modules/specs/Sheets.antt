@@ -62,6 +62,6 @@ pub record RoundedUp (t u : ℕ) : Type 0 where
 unfoldable pub units : ℕ → ℕ
 units t = (t + 9999) / 10000
 
--- the rounded_up total of a line
+-- the rounded-up total of a line
 abbrev pub line_units : Sheet → ℕ → ℕ
 line_units s n = units (total_of s n)

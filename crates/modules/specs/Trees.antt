@@ -32,7 +32,7 @@ Few f = (1 ≤ branch_count f) × (branch_count f ≤ most_branches)
 abbrev pub first_taken : Sheet → ℕ → ℕ → Bool
 first_taken s a b = nat_le (total_of s b) (total_of s a)
 
--- each line's rounded_up total, as often as the tree names it; a choice counts only the branch that it takes
+-- each line's rounded-up total, as often as the tree names it; a choice counts only the branch that it takes
 abbrev mutual
   pub gross : Tree → Sheet → ℕ
   gross (line n) s = line_units s n

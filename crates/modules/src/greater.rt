@@ -1,6 +1,6 @@
 // The greater of two branches.
 ghost use Rattle.std.specs.Prelude.{◌≡◌, max, [], ◌∷◌};
-ghost use Rattle.modules.specs.Trees.{greater as greater-tree};
+ghost use Rattle.modules.specs.Trees.{greater as greater_tree};
 ghost use Rattle.modules.specs.Charging.{greater_bounded};
 ghost use Rattle.std.proofs.Common.{rules};
 
@@ -24,7 +24,7 @@ impl<A: RiskModule, B: RiskModule> Greater<A, B> {
 }
 
 impl<A: RiskModule, B: RiskModule> RiskModule for Greater<A, B> {
-    ghost tree = { λ m. greater-tree (A.RiskModule.tree m.branches.0) (B.RiskModule.tree m.branches.1.0) };
+    ghost tree = { λ m. greater_tree (A.RiskModule.tree m.branches.0) (B.RiskModule.tree m.branches.1.0) };
 
     ghost value = { λ m s. max (A.RiskModule.value m.branches.0 s) (B.RiskModule.value m.branches.1.0 s) };
 

@@ -2,7 +2,7 @@
 ghost use Rattle.std.specs.Prelude.{◌≡◌, ℕ};
 ghost use Rattle.modules.specs.Answers.{Bounded, gross_answer, roundings_answer, charge_answer};
 ghost use Rattle.modules.specs.Bounds.{Tabled};
-ghost use Rattle.modules.specs.Trees.{Tree, gross as gross-of, roundings as roundings-of};
+ghost use Rattle.modules.specs.Trees.{Tree, gross as gross_of, roundings as roundings_of};
 ghost use Rattle.modules.specs.declared.sheet.Sheet.{Sheet as Page};
 
 use crate::{Charge, Sheet};
@@ -16,10 +16,10 @@ pub trait RiskModule {
     ghost value: { Self → Page → ℕ };
 
     fn gross(&self, sheet: &Sheet) -> Result<u32, Refusal>
-        ensures { result ≡ gross_answer (gross-of (tree self.now) sheet.now) };
+        ensures { result ≡ gross_answer (gross_of (tree self.now) sheet.now) };
 
     fn roundings(&self, sheet: &Sheet) -> Result<u32, Refusal>
-        ensures { result ≡ roundings_answer (roundings-of (tree self.now) sheet.now) };
+        ensures { result ≡ roundings_answer (roundings_of (tree self.now) sheet.now) };
 
     fn charge(&self, sheet: &Sheet) -> Result<Charge, Refusal>
         ensures { result ≡ charge_answer (tree self.now) sheet.now (value self.now sheet.now) };

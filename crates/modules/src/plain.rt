@@ -24,7 +24,7 @@ impl<H: PlainModule, T: PlainBranches> PlainBranches for (H, T) {
 }
 
 impl PlainModule for Line {
-    ghost plain = { first_of (Prim.search rules, Prim.grind (arith, Self.row.coded.inj)) };
+    ghost plain = { Prim.search rules };
 }
 
 impl<B: PlainBranches> PlainModule for Sum<B> {
@@ -40,5 +40,5 @@ impl<B: PlainBranches> PlainModule for Root<B> {
 }
 
 impl<A: PlainModule, B: PlainModule> PlainModule for Choice<A, B> {
-    ghost plain = { first_of (Prim.search rules, Prim.grind (arith, Self.row.coded.inj)) };
+    ghost plain = { Prim.search rules };
 }

@@ -1,7 +1,7 @@
 // The sum of 1 to 8 branches.
 ghost use Rattle.std.specs.Prelude.{◌≡◌, sum as sum_of};
 ghost use Rattle.modules.specs.Made.{MadeOf};
-ghost use Rattle.modules.specs.Trees.{Few, sum as sum-tree};
+ghost use Rattle.modules.specs.Trees.{Few, sum as sum_tree};
 ghost use Rattle.modules.specs.Charging.{sum_bounded};
 ghost use Rattle.std.proofs.Common.{rules};
 
@@ -28,7 +28,7 @@ impl<B: Branches + Drop> Sum<B> {
 }
 
 impl<B: Branches> RiskModule for Sum<B> {
-    ghost tree = { λ m. sum-tree (B.Branches.forest m.branches) };
+    ghost tree = { λ m. sum_tree (B.Branches.forest m.branches) };
 
     ghost value = { λ m s. sum_of (B.Branches.values m.branches s) };
 

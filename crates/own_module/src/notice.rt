@@ -5,7 +5,7 @@
 // - the law `scaled`: there is at least one part;
 // - the law `counts`: never more than all bins together, and no more for each unit as required capital rises;
 // - the question `counted`, answered by these.
-// The proofs that the check does not find by itself stand in proofs/notice.
+// The lemma behind `counts` stands in specs/Noticed.antt; the check finds the rest by itself.
 ghost use Rattle.std.specs.Prelude.{◌≡◌};
 ghost use Rattle.limits.specs.Capital.{bins_of};
 ghost use Rattle.own_module.specs.Notices.{notice_capital};

@@ -5,7 +5,7 @@
 // - the law `tabled`: every table of the tree is lawful;
 // - the law `bounded`: the charge is not below any floor of the tree, and exceeds no ceiling by more than the roundings;
 // - the questions `gross`, `roundings` and `charge`, each answered as for that tree.
-// The proofs that the check does not find by itself stand in proofs/prudent.
+// The lemma behind `bounded` stands in specs/Lone.antt, and the proofs that the check does not find by itself in proofs/prudent.
 ghost use Rattle.std.specs.Prelude.{◌≡◌, ◌+◌, []};
 ghost use Rattle.modules.specs.Answers.{roundings_answer};
 ghost use Rattle.modules.specs.Trees.{root, more, none};

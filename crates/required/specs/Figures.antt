@@ -32,7 +32,7 @@ raw_charge_of s =
     business_part 400 45 s.life
     -- life without at 0.40%
     + 10 * (40 * at_least_0 s.life_without_risk)
-    -- non_life at 2.75%
+    -- non-life at 2.75%
     + business_part 275 275 s.non_life
 
 -- O: the lesser of the raw charge and a fifth of the charge, rounded up

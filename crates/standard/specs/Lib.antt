@@ -2,4 +2,3 @@
 pub mod Standard
 pub mod Parts
 pub mod Standing
-pub mod SpreadModuleLemmas

@@ -1,11 +1,11 @@
--- The standard tree over a non_life and a catastrophe tree, with its five tables.
+-- The standard tree over a non-life and a catastrophe tree, with its five tables.
 use Rattle.std.specs.Prelude.{◌≡◌, List, [], ◌∷◌, ℕ, ◌+◌}
 use Rattle.correlation.specs.Tables.{LawfulAbove}
 use Rattle.modules.specs.Trees.{Tree, Forest, line, sum, greater, root, choice, none, more, roundings}
 use Rattle.modules.specs.declared.sheet.Sheet.{Sheet}
 
 -- The entries of each table above the diagonal, row by row, in hundredths.
--- T: life, non_life, catastrophe, market, credit
+-- T: life, non-life, catastrophe, market, credit
 abbrev pub top_entries : List ℕ
 top_entries =
     0 ∷ 25 ∷ 25 ∷ 25
@@ -84,7 +84,7 @@ down_tree = root down_entries (forest_of (line 14 ∷ line 16 ∷ equity_tree �
 abbrev pub market_tree : Tree
 market_tree = choice 15 16 up_tree down_tree
 
--- life, non_life, catastrophe, market, credit
+-- life, non-life, catastrophe, market, credit
 abbrev pub standard_tree : Tree → Tree → Tree
 standard_tree non_life catastrophe = root top_entries (forest_of (line 1 ∷ non_life ∷ catastrophe ∷ market_tree ∷ line 29 ∷ []))
 
@@ -92,7 +92,7 @@ standard_tree non_life catastrophe = root top_entries (forest_of (line 1 ∷ non
 abbrev pub Twenty : Tree → Tree → Type 0
 Twenty non_life catastrophe = (s : Sheet) → roundings (standard_tree non_life catastrophe) s ≡ 20 + roundings non_life s + roundings catastrophe s
 
--- the two trees of a company that adds up its non_life lines and its catastrophe lines
+-- the two trees of a company that adds up its non-life lines and its catastrophe lines
 abbrev pub non_life_lines : Tree
 non_life_lines = sum (forest_of (line 2 ∷ line 3 ∷ line 4 ∷ line 5 ∷ line 6 ∷ line 7 ∷ line 8 ∷ line 9 ∷ []))
 

@@ -4,7 +4,10 @@ use Rattle.std.proofs.Common.{arith}
 use Rattle.correlation.proofs.Computed.{lawful_by}
 use Rattle.modules.specs.Bounds.{Tabled}
 use Rattle.modules.specs.Trees.{Tree, first_taken}
+use Rattle.standard.specs.Parts.{spread_of}
 use Rattle.standard.specs.Standard.{TablesLawful, Twenty, top_entries, up_entries, down_entries, shares_entries, emerging_entries, equity_tree, up_tree, down_tree}
+use Rattle.standard.specs.declared.spread.Spread.{Spread}
+use Rattle.standard.specs.declared.spread.Spread.TheVariants.{Up, Down}
 
 pub tables_lawful : TablesLawful
 tables_lawful = record {
@@ -32,3 +35,7 @@ up_tabled = (tables_lawful.up.lawful, (tt, (tt, (equity_tabled, ((tt, (tt, tt)),
 
 pub down_tabled : Tabled down_tree
 down_tabled = (tables_lawful.down.lawful, (tt, (tt, (equity_tabled, ((tt, (tt, tt)), ((tt, tt), (tt, tt)))))))
+
+pub spread_tabled : (m : Spread) → Tabled (spread_of m)
+spread_tabled Up = up_tabled
+spread_tabled Down = down_tabled

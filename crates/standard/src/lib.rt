@@ -1,4 +1,4 @@
-// The standard tree as a risk module, over any non_life and any catastrophe module.
+// The standard tree as a risk module, over any non-life and any catastrophe module.
 #![tactic(auto)]
 
 ghost use Rattle.std.specs.Prelude.{◌≡◌};
@@ -17,7 +17,7 @@ use modules::{Choice, End, Line, RiskModule, Root};
 use parts::{line, root};
 pub use spread::Spread;
 
-// Life, non_life, catastrophe, market, credit.
+// Life, non-life, catastrophe, market, credit.
 const TOP: [u32; 10] = [0, 25, 25, 25, 25, 25, 25, 25, 25, 25];
 
 pub type Market = Choice<Spread, Spread>;

@@ -1,4 +1,4 @@
-// The modules of a company that adds up its non_life lines and its catastrophe lines.
+// The modules of a company that adds up its non-life lines and its catastrophe lines.
 ghost use Rattle.modules.specs.Charged.{charged};
 ghost use Rattle.standard.specs.Standard.{non_life_lines, catastrophe_lines};
 ghost use Rattle.modules.proofs.Plainly.{charged_bounded};

@@ -1,7 +1,7 @@
 // A part of the standard tree: it is made of other modules whenever it is asked.
 ghost use Rattle.std.specs.Prelude.{◌≡◌};
 ghost use Rattle.modules.specs.Answers.{gross_answer, roundings_answer, charge_answer};
-ghost use Rattle.modules.specs.Trees.{Tree, gross as gross-of, roundings as roundings-of};
+ghost use Rattle.modules.specs.Trees.{Tree, gross as gross_of, roundings as roundings_of};
 ghost use Rattle.modules.specs.Charged.{charged};
 
 use modules::{Charge, PlainModule, RiskModule, Sheet};
@@ -18,13 +18,13 @@ pub(crate) trait Part {
 }
 
 pub(crate) fn gross<P: Part>(part: &P, sheet: &Sheet) -> Result<u32, Refusal>
-    ensures { result ≡ gross_answer (gross-of (P.Part.part part.now) sheet.now) }
+    ensures { result ≡ gross_answer (gross_of (P.Part.part part.now) sheet.now) }
 {
     part.module().gross(sheet)
 }
 
 pub(crate) fn roundings<P: Part>(part: &P, sheet: &Sheet) -> Result<u32, Refusal>
-    ensures { result ≡ roundings_answer (roundings-of (P.Part.part part.now) sheet.now) }
+    ensures { result ≡ roundings_answer (roundings_of (P.Part.part part.now) sheet.now) }
 {
     part.module().roundings(sheet)
 }

@@ -1,7 +1,7 @@
 // Spread up or down, with the rest of market.
 ghost use Rattle.modules.specs.Charged.{charged};
 ghost use Rattle.standard.specs.Parts.{spread_of};
-ghost use Rattle.standard.specs.SpreadModuleLemmas;
+ghost use Rattle.standard.specs.Standing.{spread_tabled};
 ghost use Rattle.modules.proofs.Plainly.{charged_bounded};
 ghost use Rattle.std.proofs.Common.{rules};
 
@@ -49,9 +49,9 @@ impl RiskModule for Spread {
 
     ghost value = { λ m s. charged (spread_of m) s };
 
-    ghost tabled = { λ m. SpreadModuleLemmas.tabled m };
+    ghost tabled = { spread_tabled };
 
-    ghost bounded = { λ m s. charged_bounded (spread_of m) (SpreadModuleLemmas.tabled m) s };
+    ghost bounded = { λ m s. charged_bounded (spread_of m) (spread_tabled m) s };
 
     fn gross(&self, sheet: &Sheet) -> Result<u32, Refusal> {
         part::gross(self, sheet)

@@ -5,7 +5,7 @@ ghost use Rattle.correlation.specs.Roots.{root as root_of};
 ghost use Rattle.correlation.specs.Tables.{Branches, LawfulAbove, above_count, entry};
 ghost use Rattle.modules.specs.Answers.{most_gross};
 ghost use Rattle.modules.specs.Charged.{charged, charged_all};
-ghost use Rattle.modules.specs.Trees.{gross as gross-of};
+ghost use Rattle.modules.specs.Trees.{gross as gross_of};
 ghost use Rattle.words.specs.Items.{values};
 ghost use Rattle.written.specs.Reading.{forest_of, tree_of, Readable};
 ghost use Rattle.written.specs.Taking.{Takes};
@@ -55,7 +55,7 @@ fn larger(one: u32, other: u32) -> u32
 fn charge_at(words: &[u32], place: usize, charges: &[u32], sheet: &Sheet) -> Option<(u32, usize)>
     requires reads { Readable words.now }
     requires within { place < length words.now }
-    requires priced { gross-of (tree_of words.now) sheet.now ≤ most_gross }
+    requires priced { gross_of (tree_of words.now) sheet.now ≤ most_gross }
     requires behind { charges.now ≡ charged_all (forest_of (drop (place + 1) words.now)) sheet.now }
     ensures { Takes charges.now (charged_all (forest_of (drop place words.now)) sheet.now) result }
 {
@@ -81,7 +81,7 @@ fn charge_at(words: &[u32], place: usize, charges: &[u32], sheet: &Sheet) -> Opt
 // The charge of the whole tree.
 pub(crate) fn charge(words: &[u32], sheet: &Sheet) -> u32
     requires reads { Readable words.now }
-    requires priced { gross-of (tree_of words.now) sheet.now ≤ most_gross }
+    requires priced { gross_of (tree_of words.now) sheet.now ≤ most_gross }
     ensures { result ≡ charged (tree_of words.now) sheet.now }
 {
     // The charges of the branches so far stand from `first` on, in order.

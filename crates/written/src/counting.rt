@@ -1,8 +1,8 @@
-// What the words of a written tree count for, word by word: a line its rounded_up total and a rounding, a root a rounding.
+// What the words of a written tree count for, word by word: a line its rounded-up total and a rounding, a root a rounding.
 ghost use Rattle.std.specs.Prelude.{◌≡◌};
 ghost use Rattle.modules.specs.Answers.{gross_answer, roundings_answer};
 ghost use Rattle.modules.specs.Sheets.{IsLine, line_units};
-ghost use Rattle.modules.specs.Trees.{gross as gross-of, roundings as roundings-of};
+ghost use Rattle.modules.specs.Trees.{gross as gross_of, roundings as roundings_of};
 ghost use Rattle.modules.specs.declared.sheet.Sheet.{Sheet as Page};
 ghost use Rattle.written.specs.Reading.{kind_of_word, value_of, tree_of, Readable};
 
@@ -33,7 +33,7 @@ pub(crate) fn value(word: u32) -> u32
     word % VALUE_ROOM
 }
 
-// The rounded_up total of a line that there is.
+// The rounded-up total of a line that there is.
 pub(crate) fn units(line: u32, sheet: &Sheet) -> Result<u32, Refusal>
     requires { IsLine line }
     ensures { result ≡ gross_answer (line_units sheet.now line) }
@@ -46,7 +46,7 @@ pub(crate) fn units(line: u32, sheet: &Sheet) -> Result<u32, Refusal>
 
 pub(crate) fn gross(words: &[u32], sheet: &Sheet) -> Result<u32, Refusal>
     requires { Readable words.now }
-    ensures { result ≡ gross_answer (gross-of (tree_of words.now) sheet.now) }
+    ensures { result ≡ gross_answer (gross_of (tree_of words.now) sheet.now) }
 {
     let mut gross = 0u64;
     for word in words {
@@ -59,7 +59,7 @@ pub(crate) fn gross(words: &[u32], sheet: &Sheet) -> Result<u32, Refusal>
 
 pub(crate) fn roundings(words: &[u32]) -> Result<u32, Refusal>
     requires { Readable words.now }
-    ensures { (s : Page) → result ≡ roundings_answer (roundings-of (tree_of words.now) s) }
+    ensures { (s : Page) → result ≡ roundings_answer (roundings_of (tree_of words.now) s) }
 {
     let mut roundings = 0u64;
     for word in words {

@@ -1,4 +1,4 @@
-// A test of a written tree in the place of the standard tree's non_life module.
+// A test of a written tree in the place of the standard tree's non-life module.
 #![tactic(auto)]
 
 #[cfg(test)]

@@ -2,7 +2,7 @@
 ghost use Rattle.std.specs.Prelude.{◌≡◌, if◌then◌else◌};
 ghost use Rattle.modules.specs.Made.{MadeOf};
 ghost use Rattle.modules.specs.Sheets.{IsLine};
-ghost use Rattle.modules.specs.Trees.{choice as choice-tree, first_taken};
+ghost use Rattle.modules.specs.Trees.{choice as choice_tree, first_taken};
 ghost use Rattle.modules.specs.Charging.{choice_bounded};
 ghost use Rattle.std.proofs.Common.{rules, arith};
 
@@ -38,11 +38,11 @@ impl<A, B> Choice<A, B> {
 }
 
 impl<A: RiskModule, B: RiskModule> RiskModule for Choice<A, B> {
-    ghost tree = { λ m. choice-tree m.first m.second (A.RiskModule.tree m.one) (B.RiskModule.tree m.other) };
+    ghost tree = { λ m. choice_tree m.first m.second (A.RiskModule.tree m.one) (B.RiskModule.tree m.other) };
 
     ghost value = { λ m s. (if first_taken s m.first m.second then A.RiskModule.value m.one s else B.RiskModule.value m.other s) };
 
-    ghost tabled = { first_of (Prim.search rules, Prim.grind (arith, Self.row.coded.inj)) };
+    ghost tabled = { Prim.search rules };
 
     ghost bounded = { λ m s.
         choice_bounded m.first m.second (A.RiskModule.tree m.one) (B.RiskModule.tree m.other) s (A.RiskModule.value m.one s) (B.RiskModule.value m.other s)

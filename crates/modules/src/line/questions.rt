@@ -37,7 +37,7 @@ impl RiskModule for Line {
 
     ghost value = { λ m s. line_units s m.number };
 
-    ghost tabled = { first_of (Prim.search rules, Prim.grind (arith, Self.row.coded.inj)) };
+    ghost tabled = { Prim.search rules };
 
     ghost bounded = { λ m s. line_bounded m.number s };
 

@@ -39,5 +39,5 @@ impl RiskModule for Written {
 }
 
 impl PlainModule for Written {
-    ghost plain = { first_of (Prim.search rules, Prim.grind (arith, Self.row.coded.inj)) };
+    ghost plain = { Prim.search rules };
 }
