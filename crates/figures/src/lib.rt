@@ -2,11 +2,11 @@
 #![tactic(auto)]
 
 ghost use Rattle.figures.specs.Figures.{Holds, figures};
-ghost use Rattle.std.specs.List.{AllByRecursion as All};
+ghost use Rattle.std.specs.List.{AllByRecursion};
 
 // Every worked figure holds.
 pub fn figures_hold()
-    ensures { All Holds figures }
+    ensures { AllByRecursion Holds figures }
 {}
 
 #[cfg(test)]

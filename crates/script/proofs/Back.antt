@@ -5,7 +5,7 @@ use Rattle.std.proofs.ByRecursion.{All-append, All-weaker}
 use Rattle.std.proofs.lemmas.Str.Parse.{IsNumeralModel, numerals_by_fold, tells_all_ascii_digits}
 use Rattle.std.proofs.lemmas.Bool.{cond-true, cond-false, or_from, ne_eqb}
 use Rattle.std.specs.declared.alloc.Global.{Global}
-use Rattle.std.specs.List.{AllByRecursion as All}
+use Rattle.std.specs.List.{AllByRecursion}
 use Rattle.std.specs.Str.{all_ascii_digits}
 use Rattle.script.specs.declared.Fault.{Fault}
 use Rattle.script.specs.declared.Fault.TheVariants.{Memory, Line}
@@ -21,7 +21,7 @@ use Rattle.script.proofs.Saturates.{of_some}
 
 -- bytes none of which is the mark
 abbrev Free : Mark → List ℕ → Type 0
-Free m bs = All (λ b. is_mark_byte m b ≡ false) bs
+Free m bs = AllByRecursion (λ b. is_mark_byte m b ≡ false) bs
 
 before_free : (m : Mark) (bs : List ℕ) → Free m bs → before m bs ≡ bs
 before_free m [] h = refl
@@ -45,12 +45,12 @@ free_byte Space b h = or_from _ _ (ne_eqb b 32 (λ e. omega arith)) (or_from _ _
 
 -- a word that holds no mark: it is of digits and letters
 abbrev Whole : List ℕ → Type 0
-Whole w = (0 < length w) × All (λ b. 48 ≤ b) w
+Whole w = (0 < length w) × AllByRecursion (λ b. 48 ≤ b) w
 
 free_word : (m : Mark) (w : List ℕ) → Whole w → Free m w
 free_word m w h = All-weaker _ _ (free_byte m) w h.1
 
-high_digits : (ds : List ℕ) → all_ascii_digits ds ≡ true → All (λ b. 48 ≤ b) ds
+high_digits : (ds : List ℕ) → all_ascii_digits ds ≡ true → AllByRecursion (λ b. 48 ≤ b) ds
 high_digits [] h = tt
 high_digits (c ∷ cs) h = let p = tells_all_ascii_digits.parts c cs h in (p.0.0, high_digits cs p.1)
 
@@ -66,17 +66,17 @@ number_decimal n h =
     sym (of_some (decimal n) (sym (ne_eqb _ 0 (λ e. omega arith))))
     ∙ cond-true _ _ _ (digits_decimal own n small) ∙ ap (λ k. Some (min k largest)) (digits_value-decimal own n small) ∙ ap Some cut
 
-numbers_decimal : (ns : List ℕ) → All (λ n. n ≤ largest) ns → numbers_of (map decimal ns) ≡ Some ns
+numbers_decimal : (ns : List ℕ) → AllByRecursion (λ n. n ≤ largest) ns → numbers_of (map decimal ns) ≡ Some ns
 numbers_decimal [] h = refl
 numbers_decimal (n ∷ ns) h = ap (λ o. both o (numbers_of (map decimal ns))) (number_decimal n h.0) ∙ ap (both (Some n)) (numbers_decimal ns h.1)
 
-whole_decimals : (ns : List ℕ) → All (λ n. n ≤ largest) ns → All Whole (map decimal ns)
+whole_decimals : (ns : List ℕ) → AllByRecursion (λ n. n ≤ largest) ns → AllByRecursion Whole (map decimal ns)
 whole_decimals [] h = tt
 whole_decimals (n ∷ ns) h =
     let small : n < 2 ^ 64 = omega (arith, h.0) in
     ((decimal_nonempty n small, high_digits (decimal n) (digits_decimal own n small)), whole_decimals ns h.1)
 
-whole_words : (s : Said) → All (λ n. n ≤ largest) (numbers_in s) → All Whole (words_in s)
+whole_words : (s : Said) → AllByRecursion (λ n. n ≤ largest) (numbers_in s) → AllByRecursion Whole (words_in s)
 whole_words (table n ns) h = (search rules, whole_decimals (n ∷ ns) h)
 whole_words (root ns) h = (search rules, whole_decimals ns h)
 whole_words (total line amount) h = (search rules, whole_decimals (line ∷ amount ∷ []) h)
@@ -86,19 +86,19 @@ last_word : (w : List ℕ) → Whole w → words w ≡ w ∷ []
 last_word [] h = absurd (omega (arith, h.0))
 last_word (b ∷ bs) h = ap filled (last_piece Space b bs (free_word Space (b ∷ bs) h))
 
-words_spaced : (ws : List (List ℕ)) → All Whole ws → words (spaced ws) ≡ ws
+words_spaced : (ws : List (List ℕ)) → AllByRecursion Whole ws → words (spaced ws) ≡ ws
 words_spaced [] h = refl
 words_spaced (w ∷ []) h = last_word w h.0
 words_spaced (w ∷ v ∷ ws) h =
     ap filled (piece_ends Space w 32 (spaced (v ∷ ws)) (free_word Space w h.0) refl) ∙ filled_some w _ h.0.0
     ∙ ap (λ l. w ∷ l) (words_spaced (v ∷ ws) h.1)
 
-free_spaced : (m : Mark) → is_mark_byte m 32 ≡ false → (ws : List (List ℕ)) → All Whole ws → Free m (spaced ws)
+free_spaced : (m : Mark) → is_mark_byte m 32 ≡ false → (ws : List (List ℕ)) → AllByRecursion Whole ws → Free m (spaced ws)
 free_spaced m e [] h = tt
 free_spaced m e (w ∷ []) h = free_word m w h.0
 free_spaced m e (w ∷ v ∷ ws) h = All-append _ w (32 ∷ spaced (v ∷ ws)) (free_word m w h.0) (e, free_spaced m e (v ∷ ws) h.1)
 
-statement_back : (k : ℕ) (rest : Told) (s : Said) → All (λ n. n ≤ largest) (numbers_in s) → line_above k (words_in s) rest ≡ above k (Ok s) rest
+statement_back : (k : ℕ) (rest : Told) (s : Said) → AllByRecursion (λ n. n ≤ largest) (numbers_in s) → line_above k (words_in s) rest ≡ above k (Ok s) rest
 statement_back k rest (table n ns) h = ap (λ o. above k (table_of o) rest) (numbers_decimal (n ∷ ns) h)
 statement_back k rest (root ns) h = ap (λ o. above k (root_of o) rest) (numbers_decimal ns h)
 statement_back k rest (total line amount) h = ap (λ o. above k (total_of o) rest) (numbers_decimal (line ∷ amount ∷ []) h)

@@ -1,7 +1,7 @@
 -- Statements written out plainly: one to a line, with one space between two words.
 use Rattle.std.specs.Prelude.{◌≡◌, ℕ, ◌≤◌, List, [], ◌∷◌, ◌++◌, map, Ok, Err, vec_items, codes, decimal, Result, Vec, ◌≢◌}
 use Rattle.std.specs.declared.alloc.Global.{Global}
-use Rattle.std.specs.List.{AllByRecursion as All}
+use Rattle.std.specs.List.{AllByRecursion}
 use Rattle.script.specs.declared.Fault.{Fault}
 use Rattle.script.specs.declared.Fault.TheVariants.{Memory, Line}
 use Rattle.script.specs.declared.Statement.{Statement}
@@ -39,7 +39,7 @@ plain_text (s ∷ ss) = plain_line s ++ 10 ∷ plain_text ss
 
 -- no number is above the largest
 abbrev pub Within : List Said → Type 0
-Within ss = All (λ s. All (λ n. n ≤ largest) (numbers_in s)) ss
+Within ss = AllByRecursion (λ s. AllByRecursion (λ n. n ≤ largest) (numbers_in s)) ss
 
 -- a text that writes statements out plainly is parsed to those statements, unless memory ran out
 abbrev pub ReadBack : List ℕ → Result (Vec Statement Global) Fault → Type 0

@@ -16,11 +16,11 @@ use Rattle.session.specs.declared.answer.Answer.{Answer}
 use Rattle.session.specs.declared.answer.Answer.TheVariants.{TableStands, TableRefused, Root, RootRefused, ChargeOutOfRange, TotalSet, TotalRefused, TotalOutOfRange, Priced, PriceRefused}
 use Rattle.session.specs.declared.state.State.{State}
 use Rattle.std.specs.declared.alloc.Global.{Global}
-use Rattle.std.specs.List.{AllByRecursion as All}
+use Rattle.std.specs.List.{AllByRecursion}
 
 -- each number is a charge: it has at most 32 bits
 abbrev pub Charges : List ℕ → Type 0
-Charges ns = All (λ n. n < 2 ^ 32) ns
+Charges ns = AllByRecursion (λ n. n < 2 ^ 32) ns
 
 -- the same numbers, where each has at most 32 bits
 abbrev pub Narrowed : List ℕ → Option (Vec ℕ Global) → Type 0
