@@ -49,8 +49,8 @@ mod tests {
             return Ok(());
         };
         assert_eq!(rt; count, 2);
-        assert_eq!(rt; entries, &[0x50000019]);
-        assert_eq!(rt; branches, &[LINE, 0x1000000e]);
+        assert_eq!(rt; entries, [0x50000019].as_slice());
+        assert_eq!(rt; branches, [LINE, 0x1000000e].as_slice());
         let (first, others) = first_branch(branches)?;
         assert_eq!(rt; line_of(first), 1);
         assert_eq!(rt; line_of(first_item(others)?), 14);
