@@ -1,7 +1,7 @@
 -- What a tower of lines counts. Assumes nothing.
 use Rattle.std.specs.Prelude.{◌≡◌, ℕ, zero, suc, ◌+◌, ◌*◌, ◌<◌, Bool, true, false, cond, Ok, Err, nat_le}
 use Rattle.std.proofs.Common.{arith}
-use Rattle.modules.specs.Answers.{most_gross, gross_answer, roundings_answer, answer_of}
+use Rattle.modules.specs.Answers.{Bounded, most_gross, gross_answer, roundings_answer, answer_of}
 use Rattle.modules.specs.Bounds.{Tabled}
 use Rattle.modules.specs.Sheets.{line_units}
 use Rattle.modules.specs.Trees.{gross, roundings}
@@ -24,6 +24,10 @@ pub tower_roundings : (n : ℕ) (s : Sheet) → roundings (tower n) s ≡ n + 1
 unfolding tower
 tower_roundings zero s = omega arith
 tower_roundings (suc n) s = omega (arith, tower_roundings n s)
+
+-- its roundings are refused, and so it keeps any bounds
+pub tower_bounded : (s : Sheet) → Bounded (tower 1000) s 0
+tower_bounded s priced k one = absurd (omega (arith, priced.roundings_in, tower_roundings 1000 s))
 
 -- roundings that are refused
 pub too_many : (n : ℕ) → 1000 < n → roundings_answer n ≡ Err TooManyRoundings

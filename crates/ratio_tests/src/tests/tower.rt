@@ -1,8 +1,7 @@
 // A module of 1,001 roundings, which are always refused.
 ghost use Rattle.std.specs.Prelude.{◌≡◌};
 ghost use Rattle.ratio_tests.specs.Towers.{tower};
-ghost use Rattle.ratio_tests.specs.Tall.{tower_tabled, tower_roundings};
-ghost use Rattle.std.proofs.Common.{arith};
+ghost use Rattle.ratio_tests.specs.Tall.{tower_tabled, tower_bounded};
 
 use modules::{Charge, RiskModule, Sheet, gross_within};
 use refusals::Refusal;
@@ -17,7 +16,7 @@ impl RiskModule for Tower {
 
     ghost tabled = { λ m. tower_tabled 1000 };
 
-    ghost bounded = { λ m s priced k one. absurd (omega (arith, priced.roundings_in, tower_roundings 1000 s)) };
+    ghost bounded = { λ m s. tower_bounded s };
 
     fn gross(&self, sheet: &Sheet) -> Result<u32, Refusal> {
         let units = sheet.total(1).unwrap_or(0).div_ceil(10_000);
