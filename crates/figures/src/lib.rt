@@ -81,6 +81,7 @@ mod tests {
         assert_eq!(rt; required_capital(&module, &sheet, &worked(-50))?, expected);
         Ok(())
     }
+
     // Against the same 167.
     #[test]
     fn stock_and_mutual(rt: HostRuntime) -> Result<(), Fail> {

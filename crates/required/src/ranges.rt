@@ -1,6 +1,6 @@
 // Whether settings are in range.
 ghost use Rattle.std.specs.Prelude.{◌≡◌};
-ghost use Rattle.required.specs.Ranges.{within as is_Within, amount_in, signed_in, business_in, tax_in, settings_in};
+ghost use Rattle.required.specs.Ranges.{within as is_within, amount_in, signed_in, business_in, tax_in, settings_in};
 
 use crate::{Business, Settings};
 
@@ -10,7 +10,7 @@ const MOST: i64 = 1_000_000_000;
 const MOST_RATE: i64 = 10_000;
 
 fn within(low: i64, high: i64, value: i64) -> bool
-    ensures { result ≡ is_Within low high value }
+    ensures { result ≡ is_within low high value }
 {
     low <= value && value <= high
 }

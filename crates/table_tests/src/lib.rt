@@ -89,8 +89,8 @@ mod tests {
     // Refused, and the table is as it stood.
     fn square_fails(rt: &impl Abort, table: &mut Table, size: usize, square: &[u32], fault: &str) {
         assert!(rt; table.replace(size, square).is_err(), "{fault}");
-        assert_eq!(rt; table.size(), 2);
-        assert_eq!(rt; table.entry(0, 1), Some(30));
+        assert_eq!(rt; table.size(), 2, "{fault}");
+        assert_eq!(rt; table.entry(0, 1), Some(30), "{fault}");
     }
 
     #[test]
@@ -117,7 +117,7 @@ mod tests {
     // Refused, and the table is as it stood.
     fn above_fails(rt: &impl Abort, table: &mut Table, size: usize, entries: &[u32], fault: &str) {
         assert!(rt; table.replace_above(size, entries).is_err(), "{fault}");
-        assert_eq!(rt; table.size(), 1);
+        assert_eq!(rt; table.size(), 1, "{fault}");
     }
 
     #[test]

@@ -1,3 +1,4 @@
+-- The words up to here are entries in range.
 use Rattle.std.proofs.Common.{◌≡◌, ℕ, List, ◌++◌}
 use Rattle.words.specs.Heads.{Entered}
 use Rattle.words.specs.Words.{entry_words}

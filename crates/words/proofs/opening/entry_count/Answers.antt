@@ -1,3 +1,4 @@
+-- How many entries stand above the diagonal of a table of that size.
 use Rattle.std.proofs.Common.{arith}
 use Rattle.words.proofs.Parts.{count_is, count_few}
 use Rattle.words.proofs.opening.entry_count.Goals as goal

@@ -1,3 +1,4 @@
+-- The low 28 bits.
 use Rattle.std.proofs.lemmas.Nat.{and_mask}
 use Rattle.words.proofs.word.value_of.Goals as goal
 

@@ -1,4 +1,4 @@
--- What is left to show of `PairBranches::charges`.
+-- What is left to show of `charges` of a branch before others.
 use Rattle.modules.specs.Trees.{more, gross_all, roundings_all}
 use Rattle.modules.specs.Gathered.{charges_of}
 use Rattle.modules.specs.Answering.{refused_gross, made_always, added_small, added_is, gathered_is}

@@ -1,4 +1,4 @@
--- What is left to show of `GreaterModule::charge`.
+-- What is left to show of `Greater::charge`.
 use Rattle.modules.specs.Gathered.{charges_of}
 use Rattle.modules.specs.Answering.{greater_charge}
 use Rattle.modules.proofs.greater.GreaterRiskModule.charge.Goals as goal

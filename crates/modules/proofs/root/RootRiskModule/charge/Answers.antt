@@ -1,4 +1,4 @@
--- What is left to show of `RootModule::charge`.
+-- What is left to show of `Root::charge`.
 use Rattle.std.proofs.Common.{sym}
 use Rattle.modules.specs.Gathered.{charges_of}
 use Rattle.modules.specs.Rooting.{not_refused, root_amount, root_charge}

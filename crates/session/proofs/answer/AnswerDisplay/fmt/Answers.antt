@@ -1,4 +1,4 @@
--- What is left to show of `AnswerDisplay::fmt`.
+-- What is left to show of `fmt` of an answer.
 use Rattle.std.proofs.Common.{◌≡◌, ℕ, List, sym, subst}
 use Rattle.std.specs.Fmt.{HasWritten}
 use Rattle.std.specs.declared.fmt.Formatter.{Formatter}

@@ -1,4 +1,4 @@
--- What is left to show of `TowerModule::charge`.
+-- What is left to show of `Tower::charge`.
 use Rattle.std.proofs.Common.{sym, arith}
 use Rattle.modules.specs.Answers.{charge_of}
 use Rattle.modules.specs.Trees.{gross, roundings}

@@ -1,4 +1,4 @@
--- What is left to show of `TowerModule::gross`.
+-- What is left to show of `Tower::gross`.
 use Rattle.std.proofs.Common.{◌≡◌, ◌*◌, unwrap_or, ap, ◌∙◌, arith}
 use Rattle.modules.specs.Answers.{gross_answer}
 use Rattle.modules.specs.Sheets.{units}

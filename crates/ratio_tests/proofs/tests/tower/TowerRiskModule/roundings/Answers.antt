@@ -1,4 +1,4 @@
--- What is left to show of `TowerModule::roundings`.
+-- What is left to show of `Tower::roundings`.
 use Rattle.std.proofs.Common.{sym, arith}
 use Rattle.modules.specs.Trees.{roundings}
 use Rattle.ratio_tests.specs.Towers.{tower}

@@ -1,4 +1,4 @@
--- What is left to show of `WrittenModule::charge`.
+-- What is left to show of `Written::charge`.
 use Rattle.std.proofs.Common.{◌≤◌, sym, subst}
 use Rattle.modules.specs.Answers.{most_gross}
 use Rattle.modules.specs.Trees.{gross}
