@@ -1,23 +1,21 @@
 -- The text of a tree is cut into the tokens of its sketch, and the sketch stands for the tree's words. Assumes nothing.
-use Rattle.std.proofs.Common.{◌≡◌, ℕ, zero, suc, ◌+◌, ◌^◌, ◌<◌, ◌≤◌, min, max, Bool, true, false, cond, not, ◌&&◌, ◌||◌, eqb, List, [], ◌∷◌, ◌++◌, map, length, get_or, replicate, Some, None, codes, decimal, Option, sym, refl, ap, ◌∙◌, subst, append_assoc, append-nil, arith, rules}
+use Rattle.std.proofs.Common.{◌≡◌, ℕ, zero, suc, ◌+◌, ◌^◌, ◌<◌, ◌≤◌, true, false, not, ◌&&◌, List, [], ◌∷◌, ◌++◌, map, length, get_or, replicate, Some, None, codes, decimal, Option, sym, refl, ap, ◌∙◌, append_assoc, append-nil, arith, rules}
 use Rattle.correlation.proofs.Lawful.{above_in_range}
-use Rattle.correlation.specs.Tables.{LawfulAbove}
 use Rattle.modules.specs.Trees as trees
 use Rattle.modules.specs.Trees.{Tree, Forest, branch_count}
 use Rattle.std.proofs.lemmas.Fmt.{decimal_nonempty, digits_decimal, digits_value-decimal}
 use Rattle.std.proofs.lemmas.Str.Parse.{IsNumeralModel, numerals_by_fold, tells_all_ascii_digits}
 use Rattle.std.proofs.lemmas.Bool.{cond-true, cond-false, or_from, ne_eqb}
-use Rattle.std.specs.Option.{option_map}
-use Rattle.std.specs.List.{AllByRecursion as All}
+use Rattle.std.specs.List.{AllByRecursion}
 use Rattle.std.specs.Str.{all_ascii_digits, bytes_eq}
 use Rattle.words.specs.Grammar.{Branch, Branches}
-use Rattle.words.specs.Words.{word, entry_words, entry_kind, most_depth}
-use Rattle.notation.specs.Pieces.{is_space_byte, is_mark_byte, is_in_run, goes_on, joins, pieces}
+use Rattle.words.specs.Words.{word, entry_words, entry_kind}
+use Rattle.notation.specs.Pieces.{is_in_run, goes_on, joins, pieces}
 use Rattle.notation.specs.Plain.{new_line, spaced, tree_text, branches_text, further_text}
-use Rattle.notation.specs.Sketches.{Over, Sketch, Sketches, sum, greater, root, line, over, none, more, over_tokens, over_words, tokens_of, tokens_of_all, behind, words_of, words_of_all, count, depth, deepest, most_deep, Notation, Noted}
-use Rattle.notation.specs.Tokens.{largest, clipped, written, number_from, number_of, name_of, mark_of, or_else, token_of_piece, before, tokens_in, tokens}
+use Rattle.notation.specs.Sketches.{Sketch, Sketches, sum, greater, root, line, over, none, more, tokens_of, tokens_of_all, behind, words_of, words_of_all, count, depth, deepest, Notation, Noted}
+use Rattle.notation.specs.Tokens.{largest, clipped, written, number_of, name_of, mark_of, or_else, token_of_piece, before, tokens_in, tokens}
 use Rattle.notation.specs.declared.token.Token.{Token}
-use Rattle.notation.specs.declared.token.Token.TheVariants.{Line, Sum, Greater, Root, Number, Open, Close, Comma, EntriesOpen, EntriesClose}
+use Rattle.notation.specs.declared.token.Token.TheVariants.{Line, Sum, Greater, Root, Number, Open, Comma, EntriesOpen, EntriesClose}
 use Rattle.notation.proofs.Runs.{alone_first, joined_first, run_no_space}
 use Rattle.notation.proofs.Whole.{one_notation}
 
@@ -35,7 +33,7 @@ onto_some [] us = refl
 onto_some (t ∷ ts) us = ap (before (Some t)) (onto_some ts us)
 
 -- a run that ends here is one piece
-run_cut : (b : ℕ) (p rest : List ℕ) → All (λ c. is_in_run c ≡ true) (b ∷ p) → goes_on rest ≡ false → pieces ((b ∷ p) ++ rest) ≡ (b ∷ p) ∷ pieces rest
+run_cut : (b : ℕ) (p rest : List ℕ) → AllByRecursion (λ c. is_in_run c ≡ true) (b ∷ p) → goes_on rest ≡ false → pieces ((b ∷ p) ++ rest) ≡ (b ∷ p) ∷ pieces rest
 run_cut b [] rest h e = alone_first b rest (run_no_space b h.0) (ap (λ t. t && goes_on rest) h.0 ∙ e)
 run_cut b (c ∷ p) rest h e = joined_first b ((c ∷ p) ++ rest) h.0 h.1.0 ∙ ap (joins b) (run_cut c p rest h.1 e)
 
@@ -45,7 +43,7 @@ digit_runs b low high =
     (or_from _ _ (ne_eqb b 32 (λ e. omega arith)) (or_from _ _ (ne_eqb b 9 (λ e. omega arith)) (or_from _ _ (ne_eqb b 13 (λ e. omega arith)) (ne_eqb b 10 (λ e. omega arith)))))
     (or_from _ _ (ne_eqb b 40 (λ e. omega arith)) (or_from _ _ (ne_eqb b 41 (λ e. omega arith)) (or_from _ _ (ne_eqb b 44 (λ e. omega arith)) (or_from _ _ (ne_eqb b 91 (λ e. omega arith)) (ne_eqb b 93 (λ e. omega arith)))))))
 
-digits_run : (ds : List ℕ) → all_ascii_digits ds ≡ true → All (λ c. is_in_run c ≡ true) ds
+digits_run : (ds : List ℕ) → all_ascii_digits ds ≡ true → AllByRecursion (λ c. is_in_run c ≡ true) ds
 digits_run [] h = tt
 digits_run (c ∷ cs) h = let p = tells_all_ascii_digits.parts c cs h in (digit_runs c p.0.0 p.0.1, digits_run cs p.1)
 
@@ -86,7 +84,7 @@ spaces_cut (suc i) rest = spaces_cut i rest
 line_cut : (i : ℕ) (rest : List ℕ) → tokens (new_line i ++ rest) ≡ tokens rest
 line_cut i rest = spaces_cut i rest
 
-entries_cut : (es : List ℕ) (rest : List ℕ) → All (λ e. e ≤ largest) es → goes_on rest ≡ false → tokens (spaced es ++ rest) ≡ onto (map Number es) (tokens rest)
+entries_cut : (es : List ℕ) (rest : List ℕ) → AllByRecursion (λ e. e ≤ largest) es → goes_on rest ≡ false → tokens (spaced es ++ rest) ≡ onto (map Number es) (tokens rest)
 entries_cut [] rest h e = refl
 entries_cut (n ∷ []) rest h e = number_cut n rest h.0 e
 entries_cut (n ∷ m ∷ es) rest h e =
@@ -106,7 +104,7 @@ abbrev mutual
   sketches_of trees.none = none
   sketches_of (trees.more t f) = more (sketch_of t) (sketches_of f)
 
-all_small : (es : List ℕ) → ((k : ℕ) → k < length es → get_or es k 0 ≤ 100) → All (λ e. e ≤ largest) es
+all_small : (es : List ℕ) → ((k : ℕ) → k < length es → get_or es k 0 ≤ 100) → AllByRecursion (λ e. e ≤ largest) es
 all_small [] h = tt
 all_small (e ∷ es) h = (omega (arith, h 0 (omega arith)), all_small es (λ k l. h (suc k) (omega arith)))
 
@@ -163,7 +161,7 @@ counted (trees.more t f) = ap (λ n. 1 + n) (counted f)
 same_clipped : (n : ℕ) → n ≤ 8 → clipped n ≡ n
 same_clipped n few = omega arith
 
-entries_same : (es : List ℕ) → All (λ e. e ≤ largest) es → entry_words (map clipped es) ≡ entry_words es
+entries_same : (es : List ℕ) → AllByRecursion (λ e. e ≤ largest) es → entry_words (map clipped es) ≡ entry_words es
 entries_same [] h = refl
 entries_same (e ∷ es) h =
     let one : clipped e ≡ e = omega (arith, h.0) in

@@ -1,10 +1,10 @@
 -- Tokens that were cut, before those that are still to come. Assumes nothing.
-use Rattle.std.proofs.Common.{◌≡◌, ℕ, max, true, false, List, [], ◌∷◌, ◌++◌, take, drop, Some, None, Option, sym, refl, ap, ◌∙◌, append_assoc, append-nil}
+use Rattle.std.proofs.Common.{◌≡◌, ℕ, max, false, List, [], ◌∷◌, ◌++◌, take, drop, Some, None, Option, sym, refl, ap, ◌∙◌, append_assoc}
 use Rattle.std.specs.Option.{option_map}
 use Rattle.notation.specs.Pieces.{is_space_byte, run}
 use Rattle.notation.specs.Tokens.{token_of_piece, before, tokens_in, tokens}
 use Rattle.notation.specs.declared.token.Token.{Token}
-use Rattle.notation.proofs.Runs.{space_first, parted}
+use Rattle.notation.proofs.Runs.{parted}
 
 abbrev behind : List Token → Option (List Token) → Option (List Token)
 behind ts o = option_map (λ us. ts ++ us) o
@@ -14,13 +14,7 @@ behind_more ts t None = refl
 behind_more ts t (Some us) = ap Some (sym (append_assoc ts (t ∷ []) us))
 
 module _ (text : List ℕ) (ts : List Token) (xs : List ℕ) (inv : behind ts (tokens xs) ≡ tokens text) where
-  pub all_cut : xs ≡ [] → Some ts ≡ tokens text
-  all_cut is = ap Some (sym (append-nil ts)) ∙ ap (λ l. behind ts (tokens l)) (sym is) ∙ inv
-
   module _ (b : ℕ) (bs : List ℕ) (is : xs ≡ b ∷ bs) where
-    pub space_cut : true ≡ is_space_byte b → behind ts (tokens bs) ≡ tokens text
-    space_cut e = ap (λ ps. behind ts (tokens_in ps)) (sym (space_first b bs (sym e))) ∙ ap (λ l. behind ts (tokens l)) (sym is) ∙ inv
-
     module _ (n : ℕ) (p rest : List ℕ) (e : false ≡ is_space_byte b) (at : n ≡ max (run xs) 1) (front : p ≡ take n xs) (back : rest ≡ drop n xs) where
       piece_cut : tokens xs ≡ before (token_of_piece p) (tokens rest)
       piece_cut =

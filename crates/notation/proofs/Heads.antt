@@ -1,8 +1,8 @@
 -- Which tokens no head is written in. Assumes nothing.
 use Rattle.std.proofs.Common.{◌≡◌, ℕ, List, [], ◌∷◌, ◌++◌, map, Some, None, Option, sym, refl, ap, ◌∙◌, append_assoc, arith, Bor, MatchOption}
 use Rattle.words.specs.Words.{word, entry_words, root_kind, entry_kind}
-use Rattle.notation.specs.Sketches.{Over, sum, greater, root, over_tokens, over_words}
-use Rattle.notation.specs.Steps.{NoHead, NoOpen, NoEntries, Entries}
+use Rattle.notation.specs.Sketches.{Over, root, over_tokens, over_words}
+use Rattle.notation.specs.Steps.{NoOpen, NoEntries, Entries}
 use Rattle.notation.specs.Tokens.{clipped}
 use Rattle.notation.specs.declared.token.Token.{Token}
 use Rattle.notation.specs.declared.token.Token.TheVariants.{Line, Sum, Greater, Root, Number, Open, Close, Comma, EntriesOpen, EntriesClose}
@@ -29,16 +29,6 @@ rest_same t u ts us e = cc
 
 pub first_same : (t u : Token) (ts us : List Token) → t ∷ ts ≡ u ∷ us → t ≡ u
 first_same t u ts us e = cc
-
--- no head, where no entries stand behind `root[`
-pub no_root : (ts listed : List Token) → ts ≡ EntriesOpen ∷ listed → NoEntries listed → NoHead (Root ∷ ts)
-no_root ts listed is lacks = record { no_line = λ n r e. omega (arith, ap first_rank e); no_over = overs }
-  where
-    overs : (o : Over) (r : List Token) → Root ∷ ts ≡ over_tokens o ++ r → ⊥
-    overs sum r e = omega (arith, ap first_rank e)
-    overs greater r e = omega (arith, ap first_rank e)
-    overs (root es) r e =
-        lacks es r (rest_same _ _ _ _ (sym is ∙ rest_same _ _ _ _ e) ∙ append_assoc (map Number es) (EntriesClose ∷ Open ∷ []) r)
 
 -- one entry more
 pub entries_behind : (ts rest : List Token) (n : ℕ) → ts ≡ Number n ∷ rest → NoEntries rest → NoEntries ts

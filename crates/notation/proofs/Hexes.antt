@@ -1,17 +1,7 @@
 -- Digits and words that are written one behind the other. Assumes nothing.
-use Rattle.std.proofs.Common.{◌≡◌, ℕ, zero, suc, ◌+◌, ◌-◌, ◌/◌, ◌%◌, ◌<◌, List, [], ◌∷◌, ◌++◌, length, get_or, take, codes, sym, refl, ap, ◌∙◌, append_assoc, arith}
+use Rattle.std.proofs.Common.{◌≡◌, ℕ, ◌+◌, ◌<◌, List, [], ◌∷◌, ◌++◌, length, get_or, take, sym, refl, ap, ◌∙◌, append_assoc}
 use Rattle.std.proofs.lemmas.List.{take_more}
-use Rattle.notation.specs.Hexadecimal.{digit_text, digits_text, word_text, words_text}
-
-digits_more : (k n : ℕ) → (k ≡ 0 → ⊥) → digits_text k n ≡ digits_text (k - 1) (n / 16) ++ digit_text (n % 16) ∷ []
-digits_more zero n some = absurd (some refl)
-digits_more (suc k) n some = let same : k ≡ suc k - 1 = omega arith in ap (λ j. digits_text j (n / 16) ++ digit_text (n % 16) ∷ []) same
-
-pub digit_pushed : (start mid end code : List ℕ) (k n d : ℕ) → (k ≡ 0 → ⊥) → mid ≡ start ++ digits_text (k - 1) (n / 16) → end ≡ mid ++ code → code ≡ d ∷ [] → d ≡ digit_text (n % 16)
-    → end ≡ start ++ digits_text k n
-digit_pushed start mid end code k n d some so pushed one is =
-    pushed ∙ (λ j. so j ++ (one ∙ ap (λ x. x ∷ []) is) j) ∙ append_assoc start (digits_text (k - 1) (n / 16)) (digit_text (n % 16) ∷ [])
-    ∙ ap (λ x. start ++ x) (sym (digits_more k n some))
+use Rattle.notation.specs.Hexadecimal.{word_text, words_text}
 
 put : (y : ℕ) (ys : List ℕ) (x : ℕ) → words_text ((y ∷ ys) ++ x ∷ []) ≡ words_text (y ∷ ys) ++ 32 ∷ word_text x
 put y [] x = refl

@@ -8,7 +8,7 @@ use Rattle.notation.specs.Sketches.{Over, Sketch, Sketches, sum, greater, root, 
 use Rattle.notation.specs.Steps.{NoHead, NoClose, Read, NoSketch, ReadAll, NoSketches, NoBranches, Begins, HeadRead, ListRead}
 use Rattle.notation.specs.Tokens.{clipped}
 use Rattle.notation.specs.declared.token.Token.{Token}
-use Rattle.notation.specs.declared.token.Token.TheVariants.{Line, Number, Close, Comma}
+use Rattle.notation.specs.declared.token.Token.TheVariants.{Close, Comma}
 use Rattle.notation.proofs.Heads.{first_rank, rest_same}
 use Rattle.notation.proofs.Prefixes.{one_over, one_sketch, line_or_over}
 
@@ -149,11 +149,6 @@ over_parts sum n = refl
 over_parts greater n = refl
 over_parts (root es) n = refl
 
-few_kinds : (o : Over) → over_kind o ≤ 4
-few_kinds sum = omega arith
-few_kinds greater = omega arith
-few_kinds (root es) = omega arith
-
 -- a head with a list behind it, both read: what the two calls answered
 pub record Headed (levels : ℕ) (ts : List Token) (before after : List ℕ) (n : ℕ) (rest : List Token) : Type 0 where
   pub o : Over
@@ -197,9 +192,6 @@ module _ {levels : ℕ} {ts : List Token} {before after : List ℕ} {n : ℕ} {r
 
   pub own_place : at < length after
   own_place = omega (arith, simp length-append at (ap length whole))
-
-  pub own_small : (v : ℕ) → v ≡ get_or after at v → v + clipped n < 4294967296
-  own_small v read = omega (arith, own_word v read, few_kinds hd.o)
 
   pub sketch_read : 1 ≤ levels → (v : ℕ) → v ≡ get_or after at v → (w : ℕ) (counted : List ℕ) → w ≡ v + clipped n → counted ≡ set after at w → (s : Sketch) × Read levels ts before counted rest s
   sketch_read deep v read w counted sums sets = (

@@ -2,8 +2,8 @@
 use Rattle.std.proofs.Common.{◌≡◌, ℕ, List, [], ◌∷◌, ◌++◌, map, sym, refl, ap, ◌∙◌, append_assoc, arith}
 use Rattle.notation.specs.Sketches.{Over, Sketch, Sketches, sum, greater, root, line, over, none, more, over_tokens, tokens_of, tokens_of_all, behind}
 use Rattle.notation.specs.declared.token.Token.{Token}
-use Rattle.notation.specs.declared.token.Token.TheVariants.{Line, Sum, Greater, Root, Number, Open, Close, Comma, EntriesOpen, EntriesClose}
-use Rattle.notation.proofs.Heads.{rank, first_rank, rest_same}
+use Rattle.notation.specs.declared.token.Token.TheVariants.{Line, Number, Open, Close, EntriesClose}
+use Rattle.notation.proofs.Heads.{first_rank, rest_same}
 
 same_number : (m n : ℕ) (ts us : List Token) → Number m ∷ ts ≡ Number n ∷ us → m ≡ n
 same_number m n ts us e = cc

@@ -1,22 +1,11 @@
 -- The first piece of a text: a mark, or the run that it begins with. Assumes nothing.
-use Rattle.std.proofs.Common.{◌≡◌, ℕ, suc, ◌+◌, ◌<◌, ◌≤◌, max, Bool, true, false, cond, not, ◌&&◌, ◌||◌, List, [], ◌∷◌, ◌++◌, length, get_or, take, drop, sym, refl, ap, ◌∙◌, subst, arith}
-use Rattle.std.proofs.lemmas.List.{at_drop_more, at_drop_all}
+use Rattle.std.proofs.Common.{◌≡◌, ℕ, suc, ◌≤◌, max, Bool, true, false, cond, not, ◌&&◌, ◌||◌, List, [], ◌∷◌, length, take, drop, sym, refl, ap, ◌∙◌, subst, arith}
 use Rattle.std.proofs.lemmas.Bool.{cond-true, cond-false}
 use Rattle.notation.specs.Pieces.{is_space_byte, is_mark_byte, is_in_run, goes_on, joins, pieces, run}
 
 bool_cases : {P : Type 0} (t : Bool) → (t ≡ true → P) → (t ≡ false → P) → P
 bool_cases true yes-case no-case = yes-case refl
 bool_cases false yes-case no-case = no-case refl
-
--- one byte more of the run
-pub run_on : (xs : List ℕ) (i : ℕ) → i < length xs → is_in_run (get_or xs i 0) ≡ true → run xs ≡ i + run (drop i xs) → run xs ≡ (i + 1) + run (drop (i + 1) xs)
-run_on xs i h e inv = let step = at_drop_more run xs i 0 h ∙ cond-true _ _ _ e in omega arith
-
-pub run_ends : (xs : List ℕ) (i : ℕ) → i < length xs → is_in_run (get_or xs i 0) ≡ false → run xs ≡ i + run (drop i xs) → i ≡ run xs
-run_ends xs i h e inv = let step = at_drop_more run xs i 0 h ∙ cond-false _ _ _ e in omega arith
-
-pub run_whole : (xs : List ℕ) (i : ℕ) → length xs ≡ i → run xs ≡ i + run (drop i xs) → length xs ≡ run xs
-run_whole xs i h inv = let step = at_drop_all run xs i (omega arith) in omega arith
 
 pub run_le : (xs : List ℕ) → run xs ≤ length xs
 run_le [] = omega arith
@@ -25,10 +14,6 @@ run_le (b ∷ bs) = elim (is_in_run b) as (λ t. cond t (suc (run bs)) 0 ≤ len
 -- a byte of a run is no space
 pub run_no_space : (b : ℕ) → is_in_run b ≡ true → is_space_byte b ≡ false
 run_no_space b e = elim (is_space_byte b) as (λ t. not (t || is_mark_byte b) ≡ true → t ≡ false) [ true ↦ λ h. sym h | false ↦ λ h. refl ] e
-
--- a space is passed over
-pub space_first : (b : ℕ) (bs : List ℕ) → is_space_byte b ≡ true → pieces (b ∷ bs) ≡ pieces bs
-space_first b bs e = cond-true _ _ _ e
 
 -- a byte at which no run goes on is a piece
 pub alone_first : (b : ℕ) (bs : List ℕ) → is_space_byte b ≡ false → is_in_run b && goes_on bs ≡ false → pieces (b ∷ bs) ≡ (b ∷ []) ∷ pieces bs

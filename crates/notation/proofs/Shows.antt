@@ -1,5 +1,5 @@
 -- A tree's text is its head's and then its branches', each behind a new line. Assumes nothing.
-use Rattle.std.proofs.Common.{◌≡◌, ℕ, suc, ◌+◌, ◌-◌, ◌%◌, ◌<◌, ◌≤◌, List, [], ◌∷◌, ◌++◌, length, get_or, take, drop, Ok, Err, codes, decimal, sym, refl, ap, ◌∙◌, subst, append_assoc, arith, lit≤, length-append, Bor}
+use Rattle.std.proofs.Common.{◌≡◌, ℕ, suc, ◌+◌, ◌-◌, ◌%◌, ◌<◌, ◌≤◌, List, [], ◌∷◌, ◌++◌, length, get_or, take, Ok, Err, codes, decimal, sym, refl, ap, ◌∙◌, subst, append_assoc, arith, lit≤, length-append, Bor}
 use Rattle.modules.specs.Trees as trees
 use Rattle.modules.specs.Trees.{Tree, Forest, line, greater, root, choice, none, more, branch_count}
 use Rattle.refusals.specs.declared.Refusal.{Refusal}
@@ -12,7 +12,7 @@ use Rattle.words.specs.Heads.{Head, of_line, of_sum, of_greater, of_root, due, H
 use Rattle.words.specs.Items.{FirstItem, Shows, values}
 use Rattle.words.specs.Words.{value_room}
 use Rattle.words.specs.declared.item.Item.{Item}
-use Rattle.words.specs.declared.item.Item.TheVariants.{Line, Root}
+use Rattle.words.specs.declared.item.Item.TheVariants.{Root}
 use Rattle.notation.specs.Plain.{new_line, spaced, tree_text, branches_text}
 use Rattle.notation.specs.Shown.{head_text, Headed, HeadWritten, Starts, StartAll, BranchWritten, ListWritten}
 
@@ -35,13 +35,6 @@ entry_pushed y ys i start now space end l so spaces pushed =
 -- Heads.
 pub never_refused : (ws : List ℕ) (e : Refusal) → Headed ws → FirstItem ws (Err e) → ⊥
 never_refused ws e head fault = head_sound head.2 fault
-
--- the words begin with the head that the item shows
-pub line_written : (ws before after rest : List ℕ) (item : Item) (n : ℕ) → item ≡ Line n → FirstItem ws (Ok item) → rest ≡ drop 1 ws → after ≡ before ++ (codes "line " ++ decimal n) → HeadWritten ws before after 0 rest
-line_written ws before after rest item n is (h, r, o, shows) cut text =
-    let head : h ≡ of_line n = subst (λ x. Shows x h r) is shows in
-    let behind : r ≡ rest = sym (ap (drop 1) (subst (λ x. Opens 1 ws x r) head o).words) ∙ sym cut in
-    (of_line n, subst (Opens 1 ws (of_line n)) behind (subst (λ x. Opens 1 ws x r) head o), refl, text)
 
 pub root_written : (ws before opening middle after : List ℕ) (item : Item) (n : ℕ) (es bs : Bor (List ℕ)) → item ≡ Root n es bs → FirstItem ws (Ok item)
     → opening ≡ before ++ codes "root[" → middle ≡ opening ++ spaced (values es.now) → after ≡ middle ++ codes "](" → HeadWritten ws before after n bs.now

@@ -2,7 +2,7 @@
 use Rattle.std.proofs.Common.{◌≡◌, ℕ, ◌≤◌, List, [], ◌∷◌, ◌++◌, length, Some, None, Option, sym, refl, ap, ◌∙◌, subst, append-nil, arith, Bor}
 use Rattle.std.specs.Option.{option_map}
 use Rattle.notation.specs.Sketches.{Sketch, Notation, Noted, tokens_of, words_of, depth, most_deep}
-use Rattle.notation.specs.Steps.{BranchRead, Read}
+use Rattle.notation.specs.Steps.{BranchRead}
 use Rattle.notation.specs.Tokens.{tokens}
 use Rattle.notation.specs.declared.token.Token.{Token}
 use Rattle.notation.proofs.Prefixes.{one_sketch}

@@ -1,5 +1,5 @@
 -- How a text is cut into pieces: each mark by itself, and each run of other bytes between marks and spaces.
-use Rattle.std.specs.Prelude.{ℕ, suc, Bool, true, false, cond, not, ◌&&◌, ◌||◌, List, [], ◌∷◌, ◌==◌}
+use Rattle.std.specs.Prelude.{ℕ, suc, Bool, false, cond, not, ◌&&◌, ◌||◌, List, [], ◌∷◌, ◌==◌}
 
 -- the space, the tab, the carriage return and the line feed
 abbrev pub is_space_byte : ℕ → Bool

@@ -1,5 +1,5 @@
 -- The tokens are those of a sketch, and no others.
-use Rattle.std.proofs.Common.{◌≡◌, vec_items, sym, refl, ap, ◌∙◌, subst, true-eqb, false-eqb}
+use Rattle.std.proofs.Common.{vec_items, true-eqb, false-eqb}
 use Rattle.notation.proofs.Back.{noted_back, none_back}
 use Rattle.notation.proofs.Whole.{no_tokens, no_branch, some_left, all_read, cut_none, cut_some}
 use Rattle.notation.proofs.words_of.Goals as goal

@@ -7,8 +7,8 @@ use Rattle.notation.proofs.showing.+push_branch_push_branches.Goals as goal
 pub push_branch-push_head-requires : goal.push_branch-push_head-requires
 push_branch-push_head-requires t c = has_head c.args.words.now c.requires.starts.0 c.requires.starts.1 c.requires.starts.2
 
-pub push_branch_push_branches-requires : goal.push_branch_push_branches-requires
-push_branch_push_branches-requires t c =
+pub push_branch-push_branches-requires : goal.push_branch-push_branches-requires
+push_branch-push_branches-requires t c =
     let head = c.in_ok-count.ensures in
     let shorter = opens_shorter c.args.words.now head.0 c.in_ok-count.branches.now head.1 in
     let behind = branches_behind c.args.words.now (string_bytes c.args.text.now) (string_bytes c.push_head.new.text) c.in_ok-count.count c.in_ok-count.branches.now c.requires.starts.0 c.requires.starts.1 head c.requires.starts.2 in

@@ -4,6 +4,11 @@ use Rattle.notation.specs.Plain.{tree_text}
 use Rattle.notation.proofs.Back.{noted_text}
 use Rattle.notation.proofs.showing.show.Goals as goal
 
+pub push_branch-requires-clause-starts : goal.push_branch-requires-clause-starts
+push_branch-requires-clause-starts c =
+    let (t, reads, own) = c.in-Ok.ensures.answer in
+    (t, [], (1, c.args.words.now, sym (append-nil c.args.words.now), reads.1))
+
 pub returns-in_default : goal.returns-in_default
 returns-in_default c = record {
   shown = λ t reads. c.in_default.ensures.exactly.not_both t _ reads c.in_default.ensures.answer;

@@ -1,14 +1,8 @@
 -- A digit carries the number on, clipped to the largest; any other byte ends the reading.
-use Rattle.std.proofs.Common.{◌≡◌, ◌+◌, ◌-◌, ◌*◌, min, get_or, sym, ◌∙◌, arith}
+use Rattle.std.proofs.Common.{◌≡◌, ◌+◌, ◌-◌, ◌*◌, get_or, sym, ◌∙◌, arith}
 use Rattle.notation.specs.Tokens.{clipped}
-use Rattle.notation.proofs.Saturates.{of_some, no_digit, digit, all_read}
+use Rattle.notation.proofs.Saturates.{digit}
 use Rattle.notation.proofs.token.number.Goals as goal
-
-pub returns-then-not-is_ascii_digit : goal.returns-then-not-is_ascii_digit
-returns-then-not-is_ascii_digit c =
-    sym (no_digit _ _ _ c.loop-b-test.true (sym c.if-not-is_ascii_digit.ensures.value))
-    ∙ c.loop-b.invariant.0
-    ∙ of_some _ c.if-is_empty.ensures
 
 pub loop-b-preserved : goal.loop-b-preserved
 loop-b-preserved c =
@@ -16,8 +10,3 @@ loop-b-preserved c =
       digit _ _ _ c.loop-b-test.true _ (sym c.if-not-is_ascii_digit.ensures.value) is ∙ c.loop-b.invariant.0,
       omega arith,
     )
-
-pub returns : goal.returns
-returns c =
-    all_read _ _ _ c.loop-b-test.false c.loop-b.invariant.1 ∙ c.loop-b.invariant.0
-    ∙ of_some _ c.if-is_empty.ensures

@@ -1,13 +1,8 @@
 -- Each turn passes over a space, or cuts one token.
-use Rattle.std.proofs.Common.{◌≡◌, [], length, vec_items, sym, refl, ap, ◌∙◌, arith}
-use Rattle.std.proofs.lemmas.List.{nil_from_length}
-use Rattle.notation.proofs.Cuts.{all_cut, space_cut, token_cut, no_token_cut}
+use Rattle.std.proofs.Common.{length, vec_items, ap, arith}
+use Rattle.notation.proofs.Cuts.{token_cut, no_token_cut}
 use Rattle.notation.proofs.Runs.{run_le}
 use Rattle.notation.proofs.token.tokens.Goals as goal
-
-pub loop-first-preserved-then-is_space : goal.loop-first-preserved-then-is_space
-loop-first-preserved-then-is_space c =
-    space_cut c.args.text.now (vec_items c.loop-first.all) c.loop-first.left.now c.loop-first.invariant _ _ c.in-Some.ensures.cases.0 c.if-is_space.ensures
 
 pub split_at-requires : goal.split_at-requires
 split_at-requires c = omega (arith, run_le c.loop-first.left.now, ap length c.in-Some.ensures.cases.0)
@@ -19,6 +14,3 @@ returns-in_default-token_of c =
 pub loop-first-preserved : goal.loop-first-preserved
 loop-first-preserved c =
     token_cut c.args.text.now (vec_items c.loop-first.all) c.loop-first.left.now c.loop-first.invariant _ _ c.in-Some.ensures.cases.0 c.max.result _ c.split_at.result.1.now c.if-is_space.ensures (omega arith) c.split_at.ensures.front c.split_at.ensures.back _ _ c.in_ok-push.ensures.items c.in-Some-token_of.ensures
-
-pub returns : goal.returns
-returns c = all_cut c.args.text.now (vec_items c.loop-first.all) c.loop-first.left.now c.loop-first.invariant (nil_from_length _ c.in_default.ensures.cases)
