@@ -1,7 +1,7 @@
 #!/usr/bin/env python3
 """Brings this repository's own definitions and lemmas to today's spelling: words in snake case, types in camel case.
 
-usage: python3 tools/snake_names.py    once, at the top, after /opt/rattle/port/port.py and a commit
+usage: python3 tools/snake_names.py    once, at the top, after the toolchain's port/port.py (in the folder of the page that `rt doc` names) and a commit
 
 It reads which names the .antt files declare, and respells these in .antt and .rt files, and in docs/ between backticks.
 Names that the check makes (goals and steps) and names of the library stay. A name that would fall together with a
