@@ -1,9 +1,13 @@
 // What the programs do around a script: read it, and print its answers or its fault.
 #![tactic(auto)]
 
+ghost use Rattle.std.specs.Prelude.{◌≡◌, MatchResult};
+ghost use Rattle.std.specs.Process.{exit_status};
+
 use anyhow::anyhow;
 use session::answers;
 use std::io::Read;
+use std::process::ExitCode;
 use std::{env, fs};
 
 // The script's bytes: of the file that the first argument names, or else of standard input.
@@ -41,4 +45,14 @@ pub fn run(rt: &HostRuntime) -> anyhow::Result<()> {
         eprintln!(rt; "{e}")?;
     }
     outcome
+}
+
+// The status to end with: 1 where something went wrong, which `run` has told.
+pub fn status(outcome: &anyhow::Result<()>) -> ExitCode
+    ensures { MatchResult outcome.now (λ _. exit_status result ≡ 0) (λ _. exit_status result ≡ 1) }
+{
+    match outcome {
+        Ok(()) => ExitCode::SUCCESS,
+        Err(_) => ExitCode::FAILURE,
+    }
 }
