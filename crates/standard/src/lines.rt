@@ -1,6 +1,7 @@
 // The modules of a company that adds up its non-life lines and its catastrophe lines.
 ghost use Rattle.modules.specs.Charged.{charged};
 ghost use Rattle.standard.specs.Standard.{non_life_lines, catastrophe_lines};
+ghost use Rattle.standard.specs.Standing.{non_life_lines_tabled, catastrophe_lines_tabled};
 ghost use Rattle.modules.proofs.Plainly.{charged_bounded};
 ghost use Rattle.std.proofs.Common.{rules};
 
@@ -40,9 +41,9 @@ impl RiskModule for NonLifeLines {
 
     ghost value = { λ _ s. charged non_life_lines s };
 
-    ghost tabled = { λ m. (tt, (tt, (tt, (tt, (tt, (tt, (tt, (tt, tt)))))))) };
+    ghost tabled = { λ m. non_life_lines_tabled };
 
-    ghost bounded = { λ m s. charged_bounded non_life_lines (tt, (tt, (tt, (tt, (tt, (tt, (tt, (tt, tt)))))))) s };
+    ghost bounded = { λ m s. charged_bounded non_life_lines non_life_lines_tabled s };
 
     fn gross(&self, sheet: &Sheet) -> Result<u32, Refusal> {
         part::gross(self, sheet)
@@ -80,9 +81,9 @@ impl RiskModule for CatastropheLines {
 
     ghost value = { λ _ s. charged catastrophe_lines s };
 
-    ghost tabled = { Prim.search rules };
+    ghost tabled = { λ m. catastrophe_lines_tabled };
 
-    ghost bounded = { λ m s. charged_bounded catastrophe_lines (tt, (tt, (tt, (tt, tt)))) s };
+    ghost bounded = { λ m s. charged_bounded catastrophe_lines catastrophe_lines_tabled s };
 
     fn gross(&self, sheet: &Sheet) -> Result<u32, Refusal> {
         part::gross(self, sheet)
