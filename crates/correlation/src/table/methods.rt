@@ -3,10 +3,10 @@ ghost use Rattle.std.specs.Prelude.{◌≡◌};
 ghost use Rattle.correlation.specs.Answers.{size_of, entry_answer, Made, Replaced, HasAbove, HasSquare};
 ghost use Rattle.correlation.specs.Tables.{LawfulAbove, LawfulSquare};
 
-use super::entries::{entry_at, entry_count};
 use super::lawful::lawful_table;
+use super::places::entry_count;
 use super::square::{mirrored, upper};
-use super::{ENTRIES, Table};
+use super::{ENTRIES, Entries, Table};
 use refusals::Refusal;
 
 // The one refusal of this crate.
@@ -18,9 +18,9 @@ impl Table {
         ensures { Made size result }
     {
         entry_count(size).ok_or(UNLAWFUL)?;
+        let above = [0; ENTRIES];
         Ok(Table {
-            size,
-            above: [0; ENTRIES],
+            entries: Entries { size, above },
         })
     }
 
@@ -28,15 +28,15 @@ impl Table {
     pub fn size(&self) -> usize
         ensures { result ≡ size_of self.now }
     {
-        self.size
+        self.entries.size
     }
 
     // The entry of two branches, counted from 0, where the table has both.
     pub fn entry(&self, i: usize, j: usize) -> Option<u8>
         ensures { result ≡ entry_answer self.now i j }
     {
-        if i < self.size && j < self.size {
-            Some(entry_at(self.size, &self.above, i, j))
+        if i < self.size() && j < self.size() {
+            Some(self.entries.at(i, j))
         } else {
             None
         }
@@ -46,13 +46,8 @@ impl Table {
     pub fn replace_above(&mut self, size: usize, entries: &[u32]) -> Result<(), Refusal>
         ensures { Replaced (LawfulAbove size entries.now) (HasAbove size entries.now) self.old self.new result }
     {
-        match lawful_table(size, entries) {
-            Some(table) => {
-                *self = table;
-                Ok(())
-            }
-            None => Err(UNLAWFUL),
-        }
+        *self = lawful_table(size, entries).ok_or(UNLAWFUL)?;
+        Ok(())
     }
 
     // Becomes the table with this whole square of entries, row by row.

@@ -3,7 +3,7 @@ ghost use Rattle.std.specs.Prelude.{◌≡◌, ℕ, suc, ◌*◌, ◌<◌, ◌�
 ghost use Rattle.correlation.specs.Tables.{most_branches, start_of_row, above_count, square_entry, Diagonal, Symmetric, Copied};
 
 use super::ENTRIES;
-use super::entries::row_start;
+use super::places::row_start;
 
 // Whether row `i` has 100 on the diagonal and equals column `i`.
 fn row_mirrored(size: usize, square: &[u32], i: usize) -> bool
