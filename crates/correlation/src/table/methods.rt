@@ -5,7 +5,7 @@ ghost use Rattle.correlation.specs.Tables.{LawfulAbove, LawfulSquare};
 
 use super::lawful::lawful_table;
 use super::places::entry_count;
-use super::square::{mirrored, upper};
+use super::square::Square;
 use super::{ENTRIES, Entries, Table};
 use refusals::Refusal;
 
@@ -55,10 +55,16 @@ impl Table {
         ensures { Replaced (LawfulSquare size square.now) (HasSquare size square.now) self.old self.new result }
     {
         let count = entry_count(size).ok_or(UNLAWFUL)?;
-        if square.len() != size * size || !mirrored(size, square) {
+        if square.len() != size * size {
             return Err(UNLAWFUL);
         }
-        let above = upper(size, square);
-        self.replace_above(size, &above[..count])
+        let whole = Square {
+            size,
+            entries: square,
+        };
+        if !whole.mirrored() {
+            return Err(UNLAWFUL);
+        }
+        self.replace_above(size, &whole.upper()[..count])
     }
 }

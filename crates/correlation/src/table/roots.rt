@@ -45,6 +45,7 @@ fn root_of(q: u128) -> u64
     let Some(less) = q.checked_sub(1) else {
         return 0;
     };
+    // Below 2^51, so that a conversion that could fail would be no plainer than the cast.
     ((less / 100).isqrt() + 1) as u64
 }
 
