@@ -24,12 +24,12 @@ impl<'a> Square<'a> {
         self.entries[i * self.size + j]
     }
 
-    // Whether row `i` has 100 on the diagonal and equals column `i`.
+    // Whether row `i` equals column `i` and has 100 on the diagonal.
     fn row_mirrored(&self, i: usize) -> bool
         requires { i < self.now.size }
         ensures { Decides result ((square_entry self.now.size self.now.entries.now i i ≡ 100) × ((j : ℕ) → j < self.now.size → square_entry self.now.size self.now.entries.now i j ≡ square_entry self.now.size self.now.entries.now j i)) }
     {
-        self.at(i, i) == 100 && (0..self.size).all(|j| self.at(i, j) == self.at(j, i))
+        (0..self.size).all(|j| self.at(i, j) == self.at(j, i)) && self.at(i, i) == 100
     }
 
     // The same of every row.
