@@ -7,3 +7,4 @@ pub mod Lawful
 pub mod Squares
 pub mod Computed
 pub mod Standing
+pub mod Ranges

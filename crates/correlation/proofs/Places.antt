@@ -1,5 +1,7 @@
 -- Where the entries above the diagonal stand. Assumes nothing.
-use Rattle.std.proofs.Common.{◌≡◌, ℕ, zero, suc, ◌+◌, ◌-◌, ◌*◌, ◌/◌, ◌<◌, ◌≤◌, min, max, eqb, List, length, get_or, set, sym, refl, ap, ◌∙◌, ⊎_elim, le_refl, mul-le-mul_right, arith, get_or-set_other, get_or-set_same}
+use Rattle.std.proofs.Common.{◌≡◌, ℕ, zero, suc, ◌+◌, ◌-◌, ◌*◌, ◌/◌, ◌<◌, ◌≤◌, min, max, eqb, List, length, get_or, sym, refl, ap, ◌∙◌, ⊎_elim, le_refl, mul-le-mul_right, arith, rules}
+use Rattle.std.proofs.lemmas.List.{places}
+use borrow.Rule.Slice.PartMut.{put_mid}
 use Rattle.std.proofs.lemmas.Bool.{cases_lt, cases_eq, cases_order, eq-eqb, ne_eqb, cond-true, cond-false}
 use Rattle.correlation.specs.Tables.{most_branches, start_of_row, above_count, place, entry, square_entry, Copied}
 
@@ -33,6 +35,13 @@ place_lt n i j h l = omega (arith, place_in_row n i j h l, row_start_mono n (suc
 
 pub above_count_few : (n : ℕ) → n ≤ most_branches → 2 * above_count n ≤ most_branches * (most_branches - 1)
 above_count_few n h = omega (arith, row_start_closed n n (le_refl n), mul-le-mul_right n h)
+
+pub count_is : (n : ℕ) → 1 ≤ n → n * (n - 1) / 2 ≡ above_count n
+count_is n some =
+    let before = n - 1 in
+    let more : before + 1 ≡ n = omega arith in
+    let own : 2 * n - n ≡ n = omega arith in
+    omega (arith, row_start_is n n (le_refl n), ap (λ x. n * x) more, ap (λ x. n * x) own)
 
 place_earlier : (n i j a b : ℕ) → i < j → j < n → a < b → b < n → i < a → place n i j < place n a b
 place_earlier n i j a b ij jn ab bn ia = omega (arith, place_in_row n i j ij jn, row_start_mono n (suc i) a ia)
@@ -83,15 +92,16 @@ entry_symmetric n above i j =
     entry_off n above i j other ∙ (λ t. get_or above (place n (first t) (second t)) 0) ∙ sym (entry_off n above j i (λ e. other (sym e))))
     (cases_eq i j)
 
--- one entry more of a square is copied
-pub copied_more : (n : ℕ) (square above : List ℕ) (i j : ℕ) → i < j → j < n → place n i j < length above → Copied n square above (place n i j) → Copied n square (set above (place n i j) (square_entry n square i j)) (place n i (j + 1))
-copied_more n square above i j ij jn room done a b ab bn before =
+-- a row of a square is copied behind those before it
+pub copied_row : (n i start k : ℕ) (square above row : List ℕ) → i < n → start ≡ start_of_row n i → k ≡ length row → length row ≡ n - suc i → start_of_row n (suc i) ≤ length above
+    → ((j : ℕ) → i < j → j < n → get_or row (j - suc i) 0 ≡ square_entry n square i j)
+    → Copied n square above (start_of_row n i) → Copied n square (put_mid start k above row) (start_of_row n (suc i))
+copied_row n i start k square above row within is many long room each done a b ab bn before =
     ⊎_elim
-    (λ earlier. get_or-set_other above (place n i j) (place n a b) (square_entry n square i j) 0 (omega arith) ∙ done a b ab bn earlier)
+    (λ earlier. let below : place n a b < start = omega arith in search (rules, places) ∙ done a b ab bn earlier)
     (λ later.
-    let here : place n a b ≡ place n i j = omega arith in
-    let same = place_apart n a b i j ab bn ij jn here in
-    ap (λ k. get_or (set above (place n i j) (square_entry n square i j)) k 0) here
-    ∙ get_or-set_same above (place n i j) (square_entry n square i j) 0 room
-    ∙ (λ t. square_entry n square (sym same.0 t) (sym same.1 t)))
-    (cases_lt (place n a b) (place n i j))
+    let same = place_apart n a b i (suc i + (place n a b - start)) ab bn (omega arith) (omega arith) (omega arith) in
+    let at : place n a b - start ≡ b - suc i = omega (arith, same) in
+    let here : get_or (put_mid start k above row) (place n a b) 0 ≡ get_or row (place n a b - start) 0 = search (rules, places) in
+    here ∙ ap (λ x. get_or row x 0) at ∙ each b (omega (arith, same)) bn ∙ ap (λ x. square_entry n square x b) (sym same.0))
+    (cases_lt (place n a b) (start_of_row n i))

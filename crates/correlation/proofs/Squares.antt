@@ -2,7 +2,7 @@
 use Rattle.std.proofs.Common.{◌≡◌, ℕ, ◌*◌, ◌<◌, ◌≤◌, List, length, take, Ok, Err, Result, sym, ◌∙◌, subst, ⊎_elim, length-take-le, get_or-take}
 use Rattle.std.proofs.lemmas.Bool.{cases_order}
 use Rattle.refusals.specs.declared.Refusal.{Refusal}
-use Rattle.correlation.specs.Answers.{Replaced, HasAbove, HasSquare}
+use Rattle.correlation.specs.Answers.{size_of, Replaced, HasAbove, HasSquare}
 use Rattle.correlation.specs.Tables.{Within, Diagonal, Symmetric, LawfulAbove, LawfulSquare, above_count, place, entry, square_entry, Copied}
 use Rattle.correlation.specs.declared.table.Table.{Table}
 use Rattle.correlation.proofs.Lawful.{lawful_cong, entry_take}
@@ -35,7 +35,7 @@ module _ (n : ℕ) (square above : List ℕ) (count : length square ≡ n * n) (
   has_square t has = record {
     size = has.size;
     entries = λ i j w.
-        sym (entry_take t.size t.above i j (subst (λ m. Within m i j) (sym has.size) w))
+        sym (entry_take (size_of t) t.entries.above i j (subst (λ m. Within m i j) (sym has.size) w))
         ∙ (λ x. entry (has.size x) (has.entries x) i j)
         ∙ same i j w;
   }

@@ -3,39 +3,24 @@
 
 #[cfg(test)]
 mod tests {
-    use correlation::Table;
+    use correlation::{ENTRIES, Table, entry_count};
     use std::alloc::{AllocError, Global};
-    use std::process::Abort;
     use std::test::Fail;
 
     // The square of `size` branches with the same entry for any two of them.
     fn square(heap: Global, size: usize, entry: u32) -> Result<Vec<u32>, AllocError> {
         let mut all = Vec::new(heap);
-        for i in 0..size {
-            for j in 0..size {
-                all.push(if i == j { 100 } else { entry })?;
-            }
-        }
-        Ok(all)
-    }
-
-    // The part of that square above the diagonal.
-    fn above(heap: Global, size: usize, entry: u32) -> Result<Vec<u32>, AllocError> {
-        let mut all = Vec::new(heap);
-        for i in 0..size {
-            for _ in i + 1..size {
-                all.push(entry)?;
-            }
+        for own in 0..size {
+            let mut row = vec![in heap; entry; size]?;
+            row[own] = 100;
+            all.extend_from_slice(row.as_slice())?;
         }
         Ok(all)
     }
 
     // The root of 100 from each branch under the table.
     fn hundreds(heap: Global, table: &Table) -> Result<u64, Fail> {
-        let mut charges = Vec::new(heap);
-        for _ in 0..table.size() {
-            charges.push(100)?;
-        }
+        let charges = vec![in heap; 100; table.size()]?;
         Ok(table.root(charges.as_slice())?)
     }
 
@@ -54,24 +39,27 @@ mod tests {
     #[test]
     fn every_size(rt: HostRuntime) -> Result<(), Fail> {
         let heap = rt.alloc();
-        for (size, root) in HUNDREDS_AT_50.iter() {
+        for (size, root) in HUNDREDS_AT_50 {
             let mut table = Table::new(1)?;
-            table.replace(*size, square(heap, *size, 50)?.as_slice())?;
-            assert_eq!(rt; table.size(), *size);
-            assert_eq!(rt; hundreds(heap, &table)?, *root);
-            let mut other = Table::new(*size)?;
-            other.replace_above(*size, above(heap, *size, 50)?.as_slice())?;
-            assert_eq!(rt; hundreds(heap, &other)?, *root);
+            table.replace(size, square(heap, size, 50)?.as_slice())?;
+            assert_eq!(rt; table.size(), size);
+            assert_eq!(rt; hundreds(heap, &table)?, root);
+            let mut other = Table::new(size)?;
+            let above = vec![in heap; 50; entry_count(size).expect(&rt, "a size in range")]?;
+            other.replace_above(size, above.as_slice())?;
+            assert_eq!(rt; hundreds(heap, &other)?, root);
         }
         Ok(())
     }
 
     #[test]
     fn sizes_out_of_range(rt: HostRuntime) {
-        assert!(rt; Table::new(0).is_err());
-        assert!(rt; Table::new(9).is_err());
-        assert!(rt; Table::new(usize::MAX).is_err());
+        for size in [0, 9, usize::MAX] {
+            assert!(rt; Table::new(size).is_err());
+            assert_eq!(rt; entry_count(size), None);
+        }
         assert!(rt; Table::new(8).is_ok());
+        assert_eq!(rt; entry_count(8), Some(ENTRIES));
     }
 
     #[test]
@@ -86,49 +74,45 @@ mod tests {
         Ok(())
     }
 
-    // Refused, and the table is as it stood.
-    fn square_fails(rt: &impl Abort, table: &mut Table, size: usize, square: &[u32], fault: &str) {
-        assert!(rt; table.replace(size, square).is_err(), "{fault}");
-        assert_eq!(rt; table.size(), 2, "{fault}");
-        assert_eq!(rt; table.entry(0, 1), Some(30), "{fault}");
-    }
-
     #[test]
     fn squares_not_lawful(rt: HostRuntime) -> Result<(), Fail> {
+        let faults: [(usize, &[u32], &str); 8] = [
+            (0, &[], "size 0"),
+            (9, &[0; 81], "size 9"),
+            (2, &[100, 0, 0], "too few"),
+            (2, &[100, 0, 0, 100, 0], "too many"),
+            (2, &[100, 101, 101, 100], "above 100"),
+            (2, &[99, 0, 0, 100], "diagonal"),
+            (2, &[100, 10, 11, 100], "not symmetric"),
+            (3, &[100, 0, 71, 0, 100, 71, 71, 71, 100], "row condition"),
+        ];
         let mut table = Table::new(2)?;
         table.replace_above(2, &[30])?;
-        square_fails(&rt, &mut table, 0, &[], "size 0");
-        square_fails(&rt, &mut table, 9, &[0; 81], "size 9");
-        square_fails(&rt, &mut table, 2, &[100, 0, 0], "too few");
-        square_fails(&rt, &mut table, 2, &[100, 0, 0, 100, 0], "too many");
-        square_fails(&rt, &mut table, 2, &[100, 101, 101, 100], "above 100");
-        square_fails(&rt, &mut table, 2, &[99, 0, 0, 100], "diagonal");
-        square_fails(&rt, &mut table, 2, &[100, 10, 11, 100], "not symmetric");
-        square_fails(
-            &rt,
-            &mut table,
-            3,
-            &[100, 0, 71, 0, 100, 71, 71, 71, 100],
-            "row condition",
-        );
+        for (size, square, fault) in faults {
+            assert!(rt; table.replace(size, square).is_err(), "{fault}");
+            // It is as it stood.
+            assert_eq!(rt; table.size(), 2, "{fault}");
+            assert_eq!(rt; table.entry(0, 1), Some(30), "{fault}");
+        }
         Ok(())
-    }
-
-    // Refused, and the table is as it stood.
-    fn above_fails(rt: &impl Abort, table: &mut Table, size: usize, entries: &[u32], fault: &str) {
-        assert!(rt; table.replace_above(size, entries).is_err(), "{fault}");
-        assert_eq!(rt; table.size(), 1, "{fault}");
     }
 
     #[test]
     fn above_not_lawful(rt: HostRuntime) -> Result<(), Fail> {
+        let faults: [(usize, &[u32], &str); 6] = [
+            (0, &[], "size 0"),
+            (9, &[0; 36], "size 9"),
+            (3, &[0, 0], "too few"),
+            (1, &[0], "too many"),
+            (2, &[u32::MAX], "above 100"),
+            (3, &[0, 100, 100], "row condition"),
+        ];
         let mut table = Table::new(1)?;
-        above_fails(&rt, &mut table, 0, &[], "size 0");
-        above_fails(&rt, &mut table, 9, &[0; 36], "size 9");
-        above_fails(&rt, &mut table, 3, &[0, 0], "too few");
-        above_fails(&rt, &mut table, 1, &[0], "too many");
-        above_fails(&rt, &mut table, 2, &[u32::MAX], "above 100");
-        above_fails(&rt, &mut table, 3, &[0, 100, 100], "row condition");
+        for (size, entries, fault) in faults {
+            assert!(rt; table.replace_above(size, entries).is_err(), "{fault}");
+            // It is as it stood.
+            assert_eq!(rt; table.size(), 1, "{fault}");
+        }
         Ok(())
     }
 

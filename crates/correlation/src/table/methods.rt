@@ -3,10 +3,10 @@ ghost use Rattle.std.specs.Prelude.{◌≡◌};
 ghost use Rattle.correlation.specs.Answers.{size_of, entry_answer, Made, Replaced, HasAbove, HasSquare};
 ghost use Rattle.correlation.specs.Tables.{LawfulAbove, LawfulSquare};
 
-use super::entries::{entry_at, row_start};
 use super::lawful::lawful_table;
-use super::square::{mirrored, upper};
-use super::{ABOVE, BRANCHES, Table};
+use super::places::entry_count;
+use super::square::Square;
+use super::{ENTRIES, Entries, Table};
 use refusals::Refusal;
 
 // The one refusal of this crate.
@@ -17,12 +17,10 @@ impl Table {
     pub fn new(size: usize) -> Result<Table, Refusal>
         ensures { Made size result }
     {
-        if size == 0 || size > BRANCHES {
-            return Err(UNLAWFUL);
-        }
+        entry_count(size).ok_or(UNLAWFUL)?;
+        let above = [0; ENTRIES];
         Ok(Table {
-            size,
-            above: [0; ABOVE],
+            entries: Entries { size, above },
         })
     }
 
@@ -30,15 +28,15 @@ impl Table {
     pub fn size(&self) -> usize
         ensures { result ≡ size_of self.now }
     {
-        self.size
+        self.entries.size
     }
 
     // The entry of two branches, counted from 0, where the table has both.
     pub fn entry(&self, i: usize, j: usize) -> Option<u8>
         ensures { result ≡ entry_answer self.now i j }
     {
-        if i < self.size && j < self.size {
-            Some(entry_at(self.size, &self.above, i, j))
+        if i < self.size() && j < self.size() {
+            Some(self.entries.at(i, j))
         } else {
             None
         }
@@ -48,23 +46,25 @@ impl Table {
     pub fn replace_above(&mut self, size: usize, entries: &[u32]) -> Result<(), Refusal>
         ensures { Replaced (LawfulAbove size entries.now) (HasAbove size entries.now) self.old self.new result }
     {
-        match lawful_table(size, entries) {
-            Some(table) => {
-                *self = table;
-                Ok(())
-            }
-            None => Err(UNLAWFUL),
-        }
+        *self = lawful_table(size, entries).ok_or(UNLAWFUL)?;
+        Ok(())
     }
 
     // Becomes the table with this whole square of entries, row by row.
     pub fn replace(&mut self, size: usize, square: &[u32]) -> Result<(), Refusal>
         ensures { Replaced (LawfulSquare size square.now) (HasSquare size square.now) self.old self.new result }
     {
-        if size > BRANCHES || square.len() != size * size || !mirrored(size, square) {
+        let count = entry_count(size).ok_or(UNLAWFUL)?;
+        if square.len() != size * size {
             return Err(UNLAWFUL);
         }
-        let above = upper(size, square);
-        self.replace_above(size, &above[0..row_start(size, size)])
+        let whole = Square {
+            size,
+            entries: square,
+        };
+        if !whole.mirrored() {
+            return Err(UNLAWFUL);
+        }
+        self.replace_above(size, &whole.upper()[..count])
     }
 }

@@ -1,62 +1,63 @@
 // A whole square of entries: whether it mirrors itself, and its part above the diagonal.
-ghost use Rattle.std.specs.Prelude.{◌≡◌, ℕ, suc, ◌*◌, ◌<◌, ◌≤◌, length, Decides};
-ghost use Rattle.correlation.specs.Tables.{most_branches, start_of_row, above_count, square_entry, Diagonal, Symmetric, Copied};
+ghost use Rattle.std.specs.Prelude.{◌≡◌, ℕ, suc, ◌-◌, ◌*◌, ◌<◌, ◌≤◌, length, Decides, slice_index};
+ghost use Rattle.correlation.specs.Tables.{most_branches, above_count, square_entry, Diagonal, Symmetric, Copied};
 
-use super::ABOVE;
-use super::entries::row_start;
+use super::ENTRIES;
+use super::places::row_start;
 
-// Whether row `i` has 100 on the diagonal and equals column `i`.
-fn row_mirrored(size: usize, square: &[u32], i: usize) -> bool
-    requires few { size ≤ most_branches }
-    requires whole { length square.now ≡ size * size }
-    requires within { i < size }
-    ensures { Decides result ((square_entry size square.now i i ≡ 100) × ((j : ℕ) → j < size → square_entry size square.now i j ≡ square_entry size square.now j i)) }
-{
-    for j in 0..size {
-        if square[i * size + j] != square[j * size + i] {
-            return false;
+// The square of at most 8 branches that these entries fill, row by row.
+#[derive(Clone, Copy)]
+pub(crate) struct Square<'a> {
+    pub(crate) size: usize,
+    pub(crate) entries: &'a [u32],
+    ghost few: { size ≤ most_branches },
+    ghost whole: { length entries.now ≡ size * size },
+}
+
+impl<'a> Square<'a> {
+    // The entry in row `i` and column `j`.
+    fn at(&self, i: usize, j: usize) -> u32
+        requires row { i < self.now.size }
+        requires column { j < self.now.size }
+        ensures { result ≡ square_entry self.now.size self.now.entries.now i j }
+    {
+        self.entries[i * self.size + j]
+    }
+
+    // Whether row `i` equals column `i` and has 100 on the diagonal.
+    fn row_mirrored(&self, i: usize) -> bool
+        requires { i < self.now.size }
+        ensures { Decides result ((square_entry self.now.size self.now.entries.now i i ≡ 100) × ((j : ℕ) → j < self.now.size → square_entry self.now.size self.now.entries.now i j ≡ square_entry self.now.size self.now.entries.now j i)) }
+    {
+        (0..self.size).all(|j| self.at(i, j) == self.at(j, i)) && self.at(i, i) == 100
+    }
+
+    // The same of every row.
+    pub(crate) fn mirrored(&self) -> bool
+        ensures { Decides result (Diagonal self.now.size (square_entry self.now.size self.now.entries.now) × Symmetric self.now.size (square_entry self.now.size self.now.entries.now)) }
+    {
+        (0..self.size).all(|i| self.row_mirrored(i))
+    }
+
+    // What row `i` has above the diagonal.
+    fn row_above(&self, i: usize) -> &'a [u32]
+        requires { i < self.now.size }
+        ensures many { length result.now ≡ self.now.size - suc i }
+        ensures each { (j : ℕ) → i < j → j < self.now.size → slice_index result.now (j - suc i) ≡ square_entry self.now.size self.now.entries.now i j }
+    {
+        &self.entries[i * self.size + i + 1..(i + 1) * self.size]
+    }
+
+    // The entries above the diagonal, row by row.
+    pub(crate) fn upper(&self) -> [u32; ENTRIES]
+        ensures { Copied self.now.size self.now.entries.now result (above_count self.now.size) }
+    {
+        let mut above = [0; ENTRIES];
+        for i in 0..self.size {
+            let start = row_start(self.size, i);
+            let row = self.row_above(i);
+            above[start..start + row.len()].copy_from_slice(row);
         }
+        above
     }
-    square[i * size + i] == 100
-}
-
-// The same of every row.
-pub(crate) fn mirrored(size: usize, square: &[u32]) -> bool
-    requires few { size ≤ most_branches }
-    requires whole { length square.now ≡ size * size }
-    ensures { Decides result (Diagonal size (square_entry size square.now) × Symmetric size (square_entry size square.now)) }
-{
-    for i in 0..size {
-        if !row_mirrored(size, square, i) {
-            return false;
-        }
-    }
-    true
-}
-
-// Copies what row `i` has above the diagonal to where it stands among the entries there.
-fn copy_row(size: usize, square: &[u32], i: usize, above: &mut [u32])
-    requires few { size ≤ most_branches }
-    requires whole { length square.now ≡ size * size }
-    requires room { above_count size ≤ length above.old }
-    requires within { i < size }
-    ensures { Copied size square.now above.old (start_of_row size i) → Copied size square.now above.new (start_of_row size (suc i)) }
-{
-    let start = row_start(size, i);
-    for j in i + 1..size {
-        above[start + (j - i - 1)] = square[i * size + j];
-    }
-}
-
-// The entries above the diagonal, row by row.
-pub(crate) fn upper(size: usize, square: &[u32]) -> [u32; ABOVE]
-    requires few { size ≤ most_branches }
-    requires whole { length square.now ≡ size * size }
-    ensures { Copied size square.now result (above_count size) }
-{
-    let mut above = [0u32; ABOVE];
-    for row in 0..size {
-        copy_row(size, square, row, &mut above);
-    }
-    above
 }
