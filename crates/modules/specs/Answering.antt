@@ -38,6 +38,9 @@ err_by false g x e h = let same : e ≡ GrossTooLarge = cc in ap Err same
 pub refused_gross : {A : Type 0} (g n : ℕ) (x : A) (e : Refusal) → Err e ≡ gross_answer g → Err e ≡ answer_of g n x
 refused_gross g n x e h = err_by (nat_le g most_gross) g _ e h
 
+pub refused_charge : (t : Tree) (s : Sheet) (c : ℕ) (e : Refusal) → Err e ≡ gross_answer (gross t s) → Err e ≡ charge_answer t s c
+refused_charge t s c e h = refused_gross (gross t s) (roundings t s) (charge_of c (gross t s) (roundings t s)) e h
+
 pub made_always : {A E : Type 0} (r : Result A E) (P : Type 0) → P → OnOk r (P)
 made_always (Ok x) P p = p
 made_always (Err e) P p = tt
