@@ -68,9 +68,7 @@ impl<B: Branches> RiskModule for Root<B> {
         }
         let mut list = Charges::new();
         let all = self.branches.charges(sheet, &mut list)?;
-        let Ok(root) = self.table.root(list.as_slice()) else {
-            unreachable()
-        };
+        let root = self.table.root(list.as_slice())?;
         charge_within(root, u64::from(all.gross), u64::from(all.roundings) + 1)
     }
 }

@@ -33,6 +33,7 @@ impl<A, B> Choice<A, B> {
     }
 }
 
+// One `if` for each question: the branches differ in type, so a method for all three would take two closures, and two clauses for each.
 impl<A: RiskModule, B: RiskModule> RiskModule for Choice<A, B> {
     ghost tree = { λ m. choice_tree m.first.number m.second.number (A.RiskModule.tree m.one) (B.RiskModule.tree m.other) };
 
