@@ -158,6 +158,7 @@ impl<H: RiskModule, T: Branches> Branches for (H, T) {
         roundings_within(u64::from(first) + u64::from(rest))
     }
 
+    #[tactic(auto, using(crate::specs::Answering::refused_charge, crate::specs::Answering::added_is, crate::specs::Answering::gathered_is))]
     fn charges(&self, sheet: &Sheet, list: &mut Charges) -> Result<Charge, Refusal> {
         if let Ok(first) = self.0.charge(sheet) {
             list.push(first.amount);

@@ -62,6 +62,7 @@ impl<B: Branches> RiskModule for Root<B> {
         roundings_within(u64::from(self.branches.roundings(sheet)?) + 1)
     }
 
+    #[tactic(auto, using(crate::specs::Rooting::root_charge))]
     fn charge(&self, sheet: &Sheet) -> Result<Charge, Refusal> {
         if !self.fits() {
             return Ok(NO_CHARGE);

@@ -12,6 +12,7 @@ use crate::{Charge, RiskModule, Sheet, gross_within};
 use refusals::Refusal;
 
 // The least whole number of units that is not below a total.
+#[tactic(auto, unfolding(crate::specs::Sheets::units))]
 pub(crate) fn rounded_up(total: u64) -> u64
     ensures value { result ≡ units total }
     ensures least { RoundedUp total result }
