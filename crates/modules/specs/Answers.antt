@@ -35,12 +35,16 @@ BoundedAll none s (c ∷ cs) = ⊥
 BoundedAll (more t f) s [] = ⊥
 BoundedAll (more t f) s (c ∷ cs) = Bounded t s c × BoundedAll f s cs
 
+-- the answer to a number that is refused above a limit
+abbrev pub limited_answer : ℕ → Refusal → ℕ → Result ℕ Refusal
+limited_answer most refusal n = cond (nat_le n most) (Ok n) (Err refusal)
+
 -- the answers to a gross g, to roundings n, and to both with x beside them
 abbrev pub gross_answer : ℕ → Result ℕ Refusal
-gross_answer g = cond (nat_le g most_gross) (Ok g) (Err GrossTooLarge)
+gross_answer = limited_answer most_gross GrossTooLarge
 
 abbrev pub roundings_answer : ℕ → Result ℕ Refusal
-roundings_answer n = cond (nat_le n most_roundings) (Ok n) (Err TooManyRoundings)
+roundings_answer = limited_answer most_roundings TooManyRoundings
 
 -- 27 comes before 28
 abbrev pub answer_of : {A : Type 0} → ℕ → ℕ → A → Result A Refusal

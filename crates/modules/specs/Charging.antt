@@ -1,6 +1,6 @@
 -- The charge of each kind keeps within the bounds of its tree, if the charges of its branches do. Assumes nothing.
 use Rattle.std.specs.Prelude.{◌≡◌, ℕ, zero, suc, ◌+◌, ◌*◌, ◌≤◌, max, Bool, true, false, cond, List, [], ◌∷◌, length, MatchBool, sum, refl}
-use Rattle.std.proofs.Common.{sym, ap, subst, ◌∙◌, ⊎_elim, mul-le-mul_left, arith}
+use Rattle.std.proofs.Common.{sym, ap, subst, ◌∙◌, ⊎_elim, le_of_lt, mul-le-mul_left, arith}
 use Rattle.correlation.proofs.Laws.{root_laws, le_from_squares}
 use Rattle.correlation.proofs.Sums.{sum_add, sum_mono, sum_mul}
 use Rattle.correlation.specs.Answers.{charge_of_branch}
@@ -9,6 +9,7 @@ use Rattle.correlation.specs.Roots as roots
 use Rattle.correlation.specs.Sums.{sum_below}
 use Rattle.correlation.specs.Tables.{Lawful, entry}
 use Rattle.std.proofs.lemmas.List.Sums.{sum_by-cons}
+use Rattle.std.proofs.Math.Nat.{le-max_left, le-max_right, max-eq_left, max-eq_right}
 use Rattle.std.proofs.lemmas.Bool.{cases_lt}
 use Rattle.modules.specs.Answers.{Priced, Bounded, BoundedAll}
 use Rattle.modules.specs.Bounds.{Floor, Floors, Ceiling, Ceilings}
@@ -18,18 +19,6 @@ use Rattle.modules.specs.Trees.{Tree, Forest, line, greater, root, choice, none,
 use Rattle.modules.specs.declared.sheet.Sheet.{Sheet}
 use Rattle.modules.specs.Lists.{form_mono, form_scale, sum_charges}
 use Rattle.modules.specs.Units.{units_up, units_near}
-
-le_max_left : (c d : ℕ) → c ≤ max c d
-le_max_left c d = omega arith
-
-le_max_right : (c d : ℕ) → d ≤ max c d
-le_max_right c d = omega arith
-
-max_left : (c d : ℕ) → d ≤ c → max c d ≡ c
-max_left c d h = omega arith
-
-max_right : (c d : ℕ) → c ≤ d → max c d ≡ d
-max_right c d h = omega arith
 
 pub line_bounded : (n : ℕ) (s : Sheet) → Bounded (line n) s (line_units s n)
 line_bounded n s priced k one = record {
@@ -121,11 +110,11 @@ pub greater_bounded : (t u : Tree) (s : Sheet) (c d : ℕ) → Bounded t s c →
 greater_bounded t u s c d b e priced k one =
     let p = b (record { gross_in = omega (arith, priced.gross_in); roundings_in = omega (arith, priced.roundings_in) }) k one in
     let q = e (record { gross_in = omega (arith, priced.gross_in); roundings_in = omega (arith, priced.roundings_in) }) k one in
-    let first = mul-le-mul_left k (le_max_left c d) in
-    let second = mul-le-mul_left k (le_max_right c d) in
+    let first = mul-le-mul_left k (le-max_left c d) in
+    let second = mul-le-mul_left k (le-max_right c d) in
     record {
       not_below = λ w. ⊎_elim (λ h. omega (arith, p.not_below w h)) (λ h. omega (arith, q.not_below w h));
-      not_above = λ v h. ⊎_elim (λ l. omega (arith, q.not_above v h.1, ap (λ x. k * x) (max_right c d (omega arith)))) (λ l. omega (arith, p.not_above v h.0, ap (λ x. k * x) (max_left c d l))) (cases_lt c d);
+      not_above = λ v h. ⊎_elim (λ l. omega (arith, q.not_above v h.1, ap (λ x. k * x) (max-eq_right (le_of_lt l)))) (λ l. omega (arith, p.not_above v h.0, ap (λ x. k * x) (max-eq_left l))) (cases_lt c d);
     }
 
 -- by which branch is taken

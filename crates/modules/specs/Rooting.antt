@@ -26,28 +26,23 @@ module _ (t : Table) (f : Forest) where
   root_fits : branch_count f ≡ size_of t → (c : ℕ → ℕ) → roots.root (branch_count f) (entry (branch_count f) (above_of t)) c ≡ roots.root (size_of t) (entry_of t) c
   root_fits e c = ap (λ n. roots.root n (entry n (above_of t)) c) e ∙ sym (above_root t c)
 
-  tabled_by : (b : Bool) → (b ≡ true → branch_count f ≡ size_of t) → TabledAll f → Tabled (cond b (root (above_of t) f) (trees.sum none))
-  tabled_by true fits all = (table_fits (fits refl), all)
-  tabled_by false fits all = tt
+  -- what holds of the root where the branches fit the table, and of nothing, holds of what the two stand for
+  by_fit : (P : Tree → ℕ → Type 0) (v : ℕ) → (branch_count f ≡ size_of t → P (root (above_of t) f) v) → P (trees.sum none) 0 → P (root_tree t f) (cond (branch_count f == size_of t) v 0)
+  by_fit P v fitted nothing = by_test (branch_count f == size_of t) (eqb-true _ _) where
+    by_test : (b : Bool) → (b ≡ true → branch_count f ≡ size_of t) → P (cond b (root (above_of t) f) (trees.sum none)) (cond b v 0)
+    by_test true fits = fitted (fits refl)
+    by_test false fits = nothing
 
   pub root_tree_tabled : TabledAll f → Tabled (root_tree t f)
-  root_tree_tabled all = tabled_by (branch_count f == size_of t) (eqb-true _ _) all
-
-  bounded_by : (b : Bool) → (b ≡ true → branch_count f ≡ size_of t) → (s : Sheet) (cs : List ℕ) → BoundedAll f s cs → Bounded (cond b (root (above_of t) f) (trees.sum none)) s (cond b (roots.root (size_of t) (entry_of t) (charge_of_branch cs)) 0)
-  bounded_by true fits s cs all =
-      subst (Bounded (root (above_of t) f) s) (root_fits (fits refl) (charge_of_branch cs)) (root_bounded (above_of t) f s cs (table_fits (fits refl)) all)
-  bounded_by false fits s cs all = sum_bounded none s [] tt
+  root_tree_tabled all = by_fit (λ tree v. Tabled tree) 0 (λ fits. (table_fits fits, all)) tt
 
   pub root_tree_bounded : (s : Sheet) (cs : List ℕ) → BoundedAll f s cs → Bounded (root_tree t f) s (root_value t f cs)
-  root_tree_bounded s cs all = bounded_by (branch_count f == size_of t) (eqb-true _ _) s cs all
-
-  charged_by : (b : Bool) → (b ≡ true → branch_count f ≡ size_of t) → (s : Sheet) (cs : List ℕ) → cs ≡ charged_all f s → cond b (roots.root (size_of t) (entry_of t) (charge_of_branch cs)) 0 ≡ charged (cond b (root (above_of t) f) (trees.sum none)) s
-  charged_by true fits s cs e =
-      sym (root_fits (fits refl) (charge_of_branch cs)) ∙ ap (λ l. roots.root (branch_count f) (entry (branch_count f) (above_of t)) (charge_of_branch l)) e
-  charged_by false fits s cs e = refl
+  root_tree_bounded s cs all =
+      by_fit (λ tree v. Bounded tree s v) _ (λ fits. subst (Bounded (root (above_of t) f) s) (root_fits fits (charge_of_branch cs)) (root_bounded (above_of t) f s cs (table_fits fits) all)) (sum_bounded none s [] tt)
 
   pub root_charged : (s : Sheet) (cs : List ℕ) → cs ≡ charged_all f s → root_value t f cs ≡ charged (root_tree t f) s
-  root_charged s cs e = charged_by (branch_count f == size_of t) (eqb-true _ _) s cs e
+  root_charged s cs e =
+      by_fit (λ tree v. v ≡ charged tree s) _ (λ fits. sym (root_fits fits (charge_of_branch cs)) ∙ ap (λ l. roots.root (branch_count f) (entry (branch_count f) (above_of t)) (charge_of_branch l)) e) refl
 
   -- the branches fit the table, and their charges were gathered into a list that was empty
   module _ (s : Sheet) (cs list after before : List ℕ) (fits : nat_eq (branch_count f) (size_of t) ≡ true) (all : BoundedAll f s cs) (empty : before ≡ []) (gathered : length before + branch_count f ≤ 8 → after ≡ before ++ cs) (read : list ≡ after) where

@@ -1,5 +1,5 @@
 -- What a sheet says of lines and bins, and what setting one of them leaves.
-use Rattle.std.specs.Prelude.{◌≡◌, ℕ, ◌+◌, ◌-◌, ◌*◌, ◌/◌, ◌≤◌, cond, ◌&&◌, replicate, ℤ, pos, Some, None, Ok, Err, Option, Result, nat_le, slice_index, slice_set}
+use Rattle.std.specs.Prelude.{◌≡◌, ℕ, ◌+◌, ◌-◌, ◌*◌, ◌/◌, ◌≤◌, cond, ◌&&◌, List, replicate, ℤ, pos, Some, None, Ok, Err, Option, Result, nat_le, slice_index, slice_set}
 use Rattle.modules.specs.declared.sheet.Sheet.{Sheet}
 use Rattle.refusals.specs.declared.Refusal.{Refusal}
 use Rattle.refusals.specs.declared.Refusal.TheVariants.{UnknownLineOrBin, ValueOutOfRange}
@@ -37,11 +37,20 @@ with_uncapped s t = record { lines = s.lines; uncapped = t; capped = s.capped }
 abbrev pub with_capped : Sheet → ℕ → ℕ → Sheet
 with_capped s n t = record { lines = s.lines; uncapped = s.uncapped; capped = slice_set s.capped (n - 2) t }
 
+-- the total of a number from first to last, where totals stand in order of their numbers
+abbrev pub numbered_answer : List ℕ → ℕ → ℕ → ℕ → Option ℕ
+numbered_answer ts first last n = cond (nat_le first n && nat_le n last) (Some (slice_index ts (n - first))) None
+
 abbrev pub total_answer : Sheet → ℕ → Option ℕ
-total_answer s n = cond (nat_le 1 n && nat_le n line_count) (Some (total_of s n)) None
+total_answer s = numbered_answer s.lines 1 line_count
 
 abbrev pub capped_answer : Sheet → ℕ → Option ℕ
-capped_answer s n = cond (nat_le 2 n && nat_le n 7) (Some (capped_of s n)) None
+capped_answer s = numbered_answer s.capped 2 7
+
+-- the total of such a number is set; any other is refused
+abbrev pub NumberedSet : ℕ → ℕ → Refusal → ℕ → ℕ → List ℕ → List ℕ → Result (Unit {0}) Refusal → Type 0
+NumberedSet first last refusal n t before after (Ok u) = ((first ≤ n) × (n ≤ last)) × (after ≡ slice_set before (n - first) t)
+NumberedSet first last refusal n t before after (Err e) = ((first ≤ n) × (n ≤ last) → ⊥) × (e ≡ refusal) × (after ≡ before)
 
 -- a line that there is has its total set; any other is refused 23 at 0
 abbrev pub LineSet : ℕ → ℕ → Sheet → Sheet → Result (Unit {0}) Refusal → Type 0

@@ -1,15 +1,17 @@
 // Branches of a module, as nested pairs that end in `End`: any modules, each of a type of its own.
 ghost use Rattle.std.specs.Prelude.{◌≡◌, ℕ, ◌+◌, ◌-◌, ◌^◌, ◌<◌, ◌≤◌, min, List, [], ◌∷◌, ◌++◌, length, sum as sum_of, OnOk};
 ghost use Rattle.correlation.specs.Tables.{most_branches};
-ghost use Rattle.modules.specs.Answers.{Priced, BoundedAll, gross_answer, roundings_answer, answer_of, charge_of, charge_answer};
+ghost use Rattle.modules.specs.Answers.{Priced, BoundedAll, limited_answer, gross_answer, roundings_answer, answer_of, charge_of, charge_answer};
 ghost use Rattle.modules.specs.Bounds.{TabledAll};
 ghost use Rattle.modules.specs.Gathered.{charges_of};
-ghost use Rattle.modules.specs.Trees.{Forest, none, more, sum, branch_count, gross_all, roundings_all};
+ghost use Rattle.modules.specs.Made.{MadeOf};
+ghost use Rattle.modules.specs.Trees.{Forest, Few, none, more, sum, branch_count, gross_all, roundings_all};
 ghost use Rattle.modules.specs.declared.sheet.Sheet.{Sheet as Page};
 ghost use Rattle.std.proofs.Common.{rules};
 
-use crate::answer::{MOST_GROSS, MOST_ROUNDINGS};
+use crate::answer::{MOST_GROSS, MOST_ROUNDINGS, NO_CHARGE};
 use crate::{Charge, Charges, RiskModule, Sheet};
+use correlation::BRANCHES;
 use refusals::Refusal;
 
 pub trait Branches {
@@ -66,11 +68,27 @@ impl Branches for End {
     }
 
     fn charges(&self, _sheet: &Sheet, _list: &mut Charges) -> Result<Charge, Refusal> {
-        Ok(Charge {
-            amount: 0,
-            gross: 0,
-            roundings: 0,
-        })
+        Ok(NO_CHARGE)
+    }
+}
+
+// How many branches there are, where a sum or a root may have so many: 1 to 8.
+pub(crate) fn few<B: Branches>(branches: &B) -> Result<usize, Refusal>
+    ensures { MadeOf (Few (B.Branches.forest branches.now)) (λ n. n ≡ branch_count (B.Branches.forest branches.now)) result }
+{
+    match branches.count() {
+        count @ 1..=BRANCHES => Ok(count),
+        _ => Err(Refusal::ValueOutOfRange(0)),
+    }
+}
+
+// A number, unless it is above a limit.
+fn limited(number: u64, most: u32, refusal: Refusal) -> Result<u32, Refusal>
+    ensures { result ≡ limited_answer most refusal number }
+{
+    match u32::try_from(number) {
+        Ok(number) if number <= most => Ok(number),
+        _ => Err(refusal),
     }
 }
 
@@ -78,20 +96,14 @@ impl Branches for End {
 pub fn gross_within(gross: u64) -> Result<u32, Refusal>
     ensures { result ≡ gross_answer gross }
 {
-    if gross > MOST_GROSS {
-        return Err(Refusal::GrossTooLarge);
-    }
-    Ok(gross as u32)
+    limited(gross, MOST_GROSS, Refusal::GrossTooLarge)
 }
 
 // Roundings, unless they are too many.
 pub fn roundings_within(roundings: u64) -> Result<u32, Refusal>
     ensures { result ≡ roundings_answer roundings }
 {
-    if roundings > MOST_ROUNDINGS {
-        return Err(Refusal::TooManyRoundings);
-    }
-    Ok(roundings as u32)
+    limited(roundings, MOST_ROUNDINGS, Refusal::TooManyRoundings)
 }
 
 // A charge with its gross and its roundings, unless one of these is refused.
@@ -101,6 +113,7 @@ pub(crate) fn charge_within(amount: u64, gross: u64, roundings: u64) -> Result<C
 {
     let gross = gross_within(gross)?;
     let roundings = roundings_within(roundings)?;
+    // No `try_from`: by the clause above its error cannot come.
     Ok(Charge {
         amount: amount as u32,
         gross,
@@ -145,6 +158,7 @@ impl<H: RiskModule, T: Branches> Branches for (H, T) {
         roundings_within(u64::from(first) + u64::from(rest))
     }
 
+    #[tactic(auto, using(crate::specs::Answering::refused_charge, crate::specs::Answering::added_is, crate::specs::Answering::gathered_is))]
     fn charges(&self, sheet: &Sheet, list: &mut Charges) -> Result<Charge, Refusal> {
         if let Ok(first) = self.0.charge(sheet) {
             list.push(first.amount);
@@ -153,9 +167,7 @@ impl<H: RiskModule, T: Branches> Branches for (H, T) {
             }
         }
         // A branch is refused: the gross of all tells by which number.
-        match self.gross(sheet) {
-            Ok(_) => Err(Refusal::TooManyRoundings),
-            Err(refusal) => Err(refusal),
-        }
+        self.gross(sheet)?;
+        Err(Refusal::TooManyRoundings)
     }
 }

@@ -8,6 +8,7 @@ use correlation::BRANCHES;
 
 #[derive(Clone, Copy)]
 pub struct Charges {
+    // An array with its count beside it: no `Vec`, for want of a heap, and no `ArrayVec`, which is not `Copy`.
     amounts: [u32; BRANCHES],
     count: usize,
     ghost few: { count ≤ most_branches },

@@ -1,13 +1,12 @@
 // The choice between two branches by the totals of two lines.
-ghost use Rattle.modules.specs.Sheets.{IsLine};
-
 mod questions;
+
+use crate::Line;
 
 #[derive(Drop)]
 pub struct Choice<A, B> {
-    first: usize,
-    second: usize,
+    first: Line,
+    second: Line,
     one: A,
     other: B,
-    ghost known: { IsLine first × IsLine second },
 }

@@ -49,8 +49,7 @@ impl<A: RiskModule, B: RiskModule> RiskModule for Greater<A, B> {
         let both = self.branches.charges(sheet, &mut list)?;
         Ok(Charge {
             amount: list.largest(),
-            gross: both.gross,
-            roundings: both.roundings,
+            ..both
         })
     }
 }

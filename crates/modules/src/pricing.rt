@@ -9,6 +9,7 @@ use refusals::Refusal;
 
 // The charge of a module at a sheet, with its gross and its roundings. It is not below any floor of the module's tree,
 // and exceeds no ceiling by more than the roundings, to which some floor and some ceiling come as close.
+#[tactic(auto, using(crate::specs::Close::close))]
 pub fn price<M: RiskModule>(module: &M, sheet: &Sheet) -> Result<Charge, Refusal>
     ensures answer { result ≡ charge_answer (M.RiskModule.tree «module».now) sheet.now (M.RiskModule.value «module».now sheet.now) }
     ensures within { IfOk result (λ c. (k : ℕ) → 1 ≤ k → Within (M.RiskModule.tree «module».now) sheet.now c.amount k) }
@@ -25,6 +26,7 @@ pub fn plain_price<M: PlainModule>(module: &M, sheet: &Sheet) -> Result<Charge, 
 }
 
 // At every tree over lawful tables, some floor and some ceiling are as close as its roundings allow.
+#[tactic(auto, using(crate::specs::Close::close))]
 pub fn floors_meet_ceilings()
     ensures { Close }
 {}

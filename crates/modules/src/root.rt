@@ -5,9 +5,10 @@ ghost use Rattle.modules.specs.Rooted.{RootMade, root_tree, root_value};
 ghost use Rattle.modules.specs.Trees.{branch_count};
 ghost use Rattle.modules.specs.Rooting.{root_tree_tabled, root_tree_bounded};
 
-use crate::branches::{charge_within, roundings_within};
+use crate::answer::NO_CHARGE;
+use crate::branches::{charge_within, few, roundings_within};
 use crate::{Branches, Charge, Charges, RiskModule, Sheet};
-use correlation::{BRANCHES, Table};
+use correlation::Table;
 use refusals::Refusal;
 
 #[derive(Clone, Copy, Drop)]
@@ -21,11 +22,7 @@ impl<B: Branches + Drop> Root<B> {
     pub fn new(table: Table, branches: B) -> Result<Root<B>, Refusal>
         ensures { RootMade table (B.Branches.forest branches) (λ m. (m.table ≡ table) × (m.branches ≡ branches)) result }
     {
-        let count = branches.count();
-        if count == 0 || count > BRANCHES {
-            return Err(Refusal::ValueOutOfRange(0));
-        }
-        if count != table.size() {
+        if few(&branches)? != table.size() {
             return Err(Refusal::TableNotLawful(0));
         }
         Ok(Root { table, branches })
@@ -34,6 +31,7 @@ impl<B: Branches + Drop> Root<B> {
 
 impl<B: Branches> Root<B> {
     // Whether there are as many branches as the table has, as `new` sees to.
+    // Asked each time: an invariant of the type would ask `B: Branches` of whoever names it.
     fn fits(&self) -> bool
         ensures { result ≡ (branch_count (B.Branches.forest self.now.branches) == size_of self.now.table) }
     {
@@ -64,19 +62,14 @@ impl<B: Branches> RiskModule for Root<B> {
         roundings_within(u64::from(self.branches.roundings(sheet)?) + 1)
     }
 
+    #[tactic(auto, using(crate::specs::Rooting::root_charge))]
     fn charge(&self, sheet: &Sheet) -> Result<Charge, Refusal> {
         if !self.fits() {
-            return Ok(Charge {
-                amount: 0,
-                gross: 0,
-                roundings: 0,
-            });
+            return Ok(NO_CHARGE);
         }
         let mut list = Charges::new();
         let all = self.branches.charges(sheet, &mut list)?;
-        let Ok(root) = self.table.root(list.as_slice()) else {
-            unreachable()
-        };
+        let root = self.table.root(list.as_slice())?;
         charge_within(root, u64::from(all.gross), u64::from(all.roundings) + 1)
     }
 }

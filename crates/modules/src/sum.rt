@@ -5,8 +5,8 @@ ghost use Rattle.modules.specs.Trees.{Few, sum as sum_tree};
 ghost use Rattle.modules.specs.Charging.{sum_bounded};
 ghost use Rattle.std.proofs.Common.{rules};
 
+use crate::branches::few;
 use crate::{Branches, Charge, Charges, RiskModule, Sheet};
-use correlation::BRANCHES;
 use refusals::Refusal;
 
 #[derive(Clone, Copy, Drop)]
@@ -19,10 +19,7 @@ impl<B: Branches + Drop> Sum<B> {
     pub fn new(branches: B) -> Result<Sum<B>, Refusal>
         ensures { MadeOf (Few (B.Branches.forest branches)) (λ m. m.branches ≡ branches) result }
     {
-        let count = branches.count();
-        if count == 0 || count > BRANCHES {
-            return Err(Refusal::ValueOutOfRange(0));
-        }
+        few(&branches)?;
         Ok(Sum { branches })
     }
 }

@@ -14,7 +14,7 @@ spread_of Up = up_tree
 spread_of Down = down_tree
 
 abbrev pub market_of : Choice Spread Spread → Tree
-market_of m = choice m.first m.second (spread_of m.one) (spread_of m.other)
+market_of m = choice m.first.number m.second.number (spread_of m.one) (spread_of m.other)
 
 -- The tree of a root over a line, two modules, a market and a line, from those of the two.
 -- As `RiskModule` has it.

@@ -6,17 +6,6 @@ ghost use Rattle.modules.specs.Gathered.{charges_of, largest_of};
 use super::Charges;
 use correlation::BRANCHES;
 
-// The largest of some charges, and 0 of none.
-fn most(amounts: &[u32]) -> u32
-    ensures { result ≡ largest_of amounts.now }
-{
-    let mut most = 0u32;
-    for amount in amounts {
-        most = most.max(*amount);
-    }
-    most
-}
-
 impl Charges {
     pub fn new() -> Charges
         ensures { charges_of result ≡ [] }
@@ -32,6 +21,7 @@ impl Charges {
         ensures more { length (charges_of self.old) < most_branches → charges_of self.new ≡ charges_of self.old ++ amount ∷ [] }
         ensures full { most_branches ≤ length (charges_of self.old) → charges_of self.new ≡ charges_of self.old }
     {
+        // By index: what is written through `get_mut` is lost to the proof.
         if self.count < BRANCHES {
             self.amounts[self.count] = amount;
             self.count += 1;
@@ -41,12 +31,13 @@ impl Charges {
     pub fn as_slice(&self) -> &[u32]
         ensures { result.now ≡ charges_of self.now }
     {
-        &self.amounts[0..self.count]
+        &self.amounts[..self.count]
     }
 
+    // The largest, and 0 of none.
     pub fn largest(&self) -> u32
         ensures { result ≡ largest_of (charges_of self.now) }
     {
-        most(self.as_slice())
+        self.as_slice().iter().copied().fold(0, u32::max)
     }
 }

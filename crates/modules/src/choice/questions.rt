@@ -7,21 +7,17 @@ ghost use Rattle.modules.specs.Charging.{choice_bounded};
 ghost use Rattle.std.proofs.Common.{rules, arith};
 
 use super::Choice;
-use crate::sheet::LINES;
-use crate::{Charge, RiskModule, Sheet};
+use crate::{Charge, Line, RiskModule, Sheet};
 use refusals::Refusal;
 
 impl<A: RiskModule + Drop, B: RiskModule + Drop> Choice<A, B> {
     // Takes `one` where the total of the first line is at least that of the second, else `other`.
     pub fn new(first: usize, second: usize, one: A, other: B) -> Result<Choice<A, B>, Refusal>
-        ensures { MadeOf (IsLine first × IsLine second) (λ m. (m.first ≡ first) × (m.second ≡ second) × (m.one ≡ one) × (m.other ≡ other)) result }
+        ensures { MadeOf (IsLine first × IsLine second) (λ m. (m.first.number ≡ first) × (m.second.number ≡ second) × (m.one ≡ one) × (m.other ≡ other)) result }
     {
-        if first == 0 || first > LINES || second == 0 || second > LINES {
-            return Err(Refusal::ValueOutOfRange(0));
-        }
         Ok(Choice {
-            first,
-            second,
+            first: Line::new(first)?,
+            second: Line::new(second)?,
             one,
             other,
         })
@@ -31,21 +27,22 @@ impl<A: RiskModule + Drop, B: RiskModule + Drop> Choice<A, B> {
 impl<A, B> Choice<A, B> {
     // Whether the first branch is taken: by exact totals.
     fn takes_one(&self, sheet: &Sheet) -> bool
-        ensures { result ≡ first_taken sheet.now self.now.first self.now.second }
+        ensures { result ≡ first_taken sheet.now self.now.first.number self.now.second.number }
     {
         sheet.line_total(self.first) >= sheet.line_total(self.second)
     }
 }
 
+// One `if` for each question: the branches differ in type, so a method for all three would take two closures, and two clauses for each.
 impl<A: RiskModule, B: RiskModule> RiskModule for Choice<A, B> {
-    ghost tree = { λ m. choice_tree m.first m.second (A.RiskModule.tree m.one) (B.RiskModule.tree m.other) };
+    ghost tree = { λ m. choice_tree m.first.number m.second.number (A.RiskModule.tree m.one) (B.RiskModule.tree m.other) };
 
-    ghost value = { λ m s. (if first_taken s m.first m.second then A.RiskModule.value m.one s else B.RiskModule.value m.other s) };
+    ghost value = { λ m s. (if first_taken s m.first.number m.second.number then A.RiskModule.value m.one s else B.RiskModule.value m.other s) };
 
     ghost tabled = { Prim.search rules };
 
     ghost bounded = { λ m s.
-        choice_bounded m.first m.second (A.RiskModule.tree m.one) (B.RiskModule.tree m.other) s (A.RiskModule.value m.one s) (B.RiskModule.value m.other s)
+        choice_bounded m.first.number m.second.number (A.RiskModule.tree m.one) (B.RiskModule.tree m.other) s (A.RiskModule.value m.one s) (B.RiskModule.value m.other s)
         (A.RiskModule.bounded m.one s) (B.RiskModule.bounded m.other s) };
 
     fn gross(&self, sheet: &Sheet) -> Result<u32, Refusal> {

@@ -1,5 +1,5 @@
 // What a line answers.
-ghost use Rattle.std.specs.Prelude.{◌≡◌};
+ghost use Rattle.std.specs.Prelude.{◌≡◌, ◌+◌};
 ghost use Rattle.modules.specs.Made.{MadeOf};
 ghost use Rattle.modules.specs.Sheets.{IsLine, line_units, units, RoundedUp};
 ghost use Rattle.modules.specs.Trees.{line as line_tree};
@@ -7,12 +7,12 @@ ghost use Rattle.modules.specs.Charging.{line_bounded};
 ghost use Rattle.std.proofs.Common.{rules, arith};
 
 use super::Line;
-use crate::answer::MOST_GROSS;
 use crate::sheet::LINES;
-use crate::{Charge, RiskModule, Sheet};
+use crate::{Charge, RiskModule, Sheet, gross_within};
 use refusals::Refusal;
 
 // The least whole number of units that is not below a total.
+#[tactic(auto, unfolding(crate::specs::Sheets::units))]
 pub(crate) fn rounded_up(total: u64) -> u64
     ensures value { result ≡ units total }
     ensures least { RoundedUp total result }
@@ -25,10 +25,17 @@ impl Line {
     pub fn new(number: usize) -> Result<Line, Refusal>
         ensures { MadeOf (IsLine number) (λ l. l.number ≡ number) result }
     {
-        if number == 0 || number > LINES {
-            return Err(Refusal::ValueOutOfRange(0));
+        match number {
+            1..=LINES => Ok(Line { number }),
+            _ => Err(Refusal::ValueOutOfRange(0)),
         }
-        Ok(Line { number })
+    }
+
+    // Its place in a row of all lines.
+    pub(crate) fn index(self) -> usize
+        ensures { result + 1 ≡ self.number }
+    {
+        self.number - 1
     }
 }
 
@@ -42,11 +49,7 @@ impl RiskModule for Line {
     ghost bounded = { λ m s. line_bounded m.number s };
 
     fn gross(&self, sheet: &Sheet) -> Result<u32, Refusal> {
-        let units = rounded_up(sheet.line_total(self.number));
-        if units > MOST_GROSS {
-            return Err(Refusal::GrossTooLarge);
-        }
-        Ok(units as u32)
+        gross_within(rounded_up(sheet.line_total(*self)))
     }
 
     fn roundings(&self, _sheet: &Sheet) -> Result<u32, Refusal> {

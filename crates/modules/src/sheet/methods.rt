@@ -1,9 +1,39 @@
 // Reads a sheet, and sets its totals while it is made.
-ghost use Rattle.std.specs.Prelude.{◌≡◌, ◌≤◌};
-ghost use Rattle.modules.specs.Sheets.{Blank, LineSet, CappedSet, line_count, total_of, total_answer, capped_answer, with_uncapped};
+ghost use Rattle.std.specs.Prelude.{◌≡◌, ◌+◌, ◌-◌, ◌≤◌};
+ghost use Rattle.modules.specs.Sheets.{Blank, numbered_answer, NumberedSet, LineSet, CappedSet, line_count, total_of, total_answer, capped_answer, with_uncapped};
 
 use super::{CAPPED, LINES, Sheet};
+use crate::Line;
 use refusals::Refusal;
+
+// The total of a number, where there is one: they are numbered from `first`.
+fn numbered<const N: usize>(totals: &[u64; N], first: usize, number: usize) -> Option<u64>
+    requires { 1 ≤ first }
+    ensures { result ≡ numbered_answer totals.now first (first + N - 1) number }
+{
+    totals.get(number.checked_sub(first)?).copied()
+}
+
+// Sets that total, or refuses a number that there is not.
+fn set_numbered<const N: usize>(
+    totals: &mut [u64; N],
+    first: usize,
+    number: usize,
+    total: u64,
+    refusal: Refusal,
+) -> Result<(), Refusal>
+    requires { 1 ≤ first }
+    ensures { NumberedSet first (first + N - 1) refusal number total totals.old totals.new result }
+{
+    // By index: what is written through `get_mut` is lost to the proof.
+    match number.checked_sub(first) {
+        Some(index) if index < N => {
+            totals[index] = total;
+            Ok(())
+        }
+        _ => Err(refusal),
+    }
+}
 
 impl Sheet {
     // Every total is 0.
@@ -21,28 +51,19 @@ impl Sheet {
     pub fn total(&self, line: usize) -> Option<u64>
         ensures { result ≡ total_answer self.now line }
     {
-        if line == 0 || line > LINES {
-            return None;
-        }
-        Some(self.line_total(line))
+        numbered(&self.lines, 1, line)
     }
 
-    // The exact total of a line that there is.
-    pub(crate) fn line_total(&self, line: usize) -> u64
-        requires { (1 ≤ line) × (line ≤ line_count) }
-        ensures { result ≡ total_of self.now line }
+    pub(crate) fn line_total(&self, line: Line) -> u64
+        ensures { result ≡ total_of self.now line.number }
     {
-        self.lines[line - 1]
+        self.lines[line.index()]
     }
 
     pub fn set_total(&mut self, line: usize, total: u64) -> Result<(), Refusal>
         ensures { LineSet line total self.old self.new result }
     {
-        if line == 0 || line > LINES {
-            return Err(Refusal::ValueOutOfRange(0));
-        }
-        self.lines[line - 1] = total;
-        Ok(())
+        set_numbered(&mut self.lines, 1, line, total, Refusal::ValueOutOfRange(0))
     }
 
     // Bin 1, which may be below 0.
@@ -62,19 +83,12 @@ impl Sheet {
     pub fn capped(&self, bin: usize) -> Option<u64>
         ensures { result ≡ capped_answer self.now bin }
     {
-        if bin < 2 || bin > CAPPED + 1 {
-            return None;
-        }
-        Some(self.capped[bin - 2])
+        numbered(&self.capped, 2, bin)
     }
 
     pub fn set_capped(&mut self, bin: usize, total: u64) -> Result<(), Refusal>
         ensures { CappedSet bin total self.old self.new result }
     {
-        if bin < 2 || bin > CAPPED + 1 {
-            return Err(Refusal::UnknownLineOrBin);
-        }
-        self.capped[bin - 2] = total;
-        Ok(())
+        set_numbered(&mut self.capped, 2, bin, total, Refusal::UnknownLineOrBin)
     }
 }

@@ -1,7 +1,5 @@
 -- What is left to show of `charges` of a branch before others.
-use Rattle.modules.specs.Trees.{more, gross_all, roundings_all}
-use Rattle.modules.specs.Gathered.{charges_of}
-use Rattle.modules.specs.Answering.{refused_gross, made_always, added_small, added_is, gathered_is}
+use Rattle.modules.specs.Answering.{added_small}
 use Rattle.modules.proofs.branches.Tuple2Branches.charges.Goals as goal
 
 pub added-requires : goal.added-requires
@@ -11,18 +9,3 @@ added-requires g c =
     let s = c.args.sheet.now in
     added_small (g.H.RiskModule.tree h) (g.T.Branches.forest t) s (g.H.RiskModule.value h s) (g.T.Branches.values t s) c.in-Ok.first c.in-Ok-charges.rest c.in-Ok.ensures c.in-Ok-charges.ensures.answer
     (g.met.H.RiskModule.tabled h) (g.met.T.Branches.tabled t) (g.met.H.RiskModule.bounded h s) (g.met.T.Branches.bounded t s)
-
-pub returns-in-Ok-charges : goal.returns-in-Ok-charges
-returns-in-Ok-charges g c =
-    let h = c.args.self.now.0 in
-    let t = c.args.self.now.1 in
-    let s = c.args.sheet.now in
-    record {
-      answer = added_is (g.H.RiskModule.tree h) (g.T.Branches.forest t) s (g.H.RiskModule.value h s) (g.T.Branches.values t s) c.in-Ok.first c.in-Ok-charges.rest c.in-Ok.ensures c.in-Ok-charges.ensures.answer c.added.result c.added.ensures;
-      gathered = made_always c.added.result _ (gathered_is (g.H.RiskModule.tree h) (g.T.Branches.forest t) s (g.H.RiskModule.value h s) (g.T.Branches.values t s) c.in-Ok.first c.in-Ok-charges.rest c.in-Ok.ensures c.in-Ok-charges.ensures.answer (charges_of c.args.list.now) (charges_of c.push.new.self) (charges_of c.charges.new.list) c.push.ensures.more c.in-Ok-charges.ensures.gathered);
-    }
-
-pub returns-in-Err : goal.returns-in-Err
-returns-in-Err g c =
-    let f = more (g.H.RiskModule.tree c.args.self.now.0) (g.T.Branches.forest c.args.self.now.1) in
-    record { answer = refused_gross (gross_all f c.args.sheet.now) (roundings_all f c.args.sheet.now) _ c.in-Err.refusal c.in-Err.ensures; gathered = tt }
