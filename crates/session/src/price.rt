@@ -7,13 +7,13 @@ ghost use Rattle.session.specs.Runs.{PriceAnswered, line_tree};
 use crate::Answer;
 use modules::{Charge, Sheet, plain_price};
 use refusals::Refusal;
-use standard::{CatastropheLines, NonLifeLines, standard};
+use standard::{catastrophe_lines, non_life_lines, standard};
 
 // Non-life and catastrophe are the sums of their lines.
 fn price_by_lines(sheet: &Sheet) -> Result<Charge, Refusal>
     ensures { result ≡ charge_answer line_tree sheet.now (charged line_tree sheet.now) }
 {
-    let tree = standard(NonLifeLines, CatastropheLines);
+    let tree = standard(non_life_lines(), catastrophe_lines());
     plain_price(&tree, sheet)
 }
 

@@ -5,7 +5,7 @@ use Rattle.correlation.proofs.Computed.{lawful_by}
 use Rattle.modules.specs.Bounds.{Tabled}
 use Rattle.modules.specs.Trees.{Tree, first_taken}
 use Rattle.standard.specs.Parts.{spread_of}
-use Rattle.standard.specs.Standard.{TablesLawful, Twenty, top_entries, up_entries, down_entries, shares_entries, emerging_entries, equity_tree, up_tree, down_tree, non_life_lines, catastrophe_lines}
+use Rattle.standard.specs.Standard.{TablesLawful, Twenty, top_entries, up_entries, down_entries, shares_entries, emerging_entries, equity_tree, up_tree, down_tree}
 use Rattle.standard.specs.declared.spread.Spread.{Spread}
 use Rattle.standard.specs.declared.spread.Spread.TheVariants.{Up, Down}
 
@@ -39,10 +39,3 @@ down_tabled = (tables_lawful.down.lawful, (tt, (tt, (equity_tabled, ((tt, (tt, t
 pub spread_tabled : (m : Spread) → Tabled (spread_of m)
 spread_tabled Up = up_tabled
 spread_tabled Down = down_tabled
-
--- sums of lines have no table
-pub non_life_lines_tabled : Tabled non_life_lines
-non_life_lines_tabled = (tt, (tt, (tt, (tt, (tt, (tt, (tt, (tt, tt))))))))
-
-pub catastrophe_lines_tabled : Tabled catastrophe_lines
-catastrophe_lines_tabled = (tt, (tt, (tt, (tt, tt))))

@@ -2,19 +2,17 @@
 #![tactic(auto)]
 
 ghost use Rattle.std.specs.Prelude.{◌≡◌};
-ghost use Rattle.standard.specs.Parts.{market_of, standard_of};
 ghost use Rattle.standard.specs.Standard.{TablesLawful, Twenty, market_tree, standard_tree};
 
-mod equity;
 mod lines;
-mod part;
 mod parts;
+mod shares;
 mod spread;
 
-pub use equity::Equity;
-pub use lines::{CatastropheLines, NonLifeLines};
+pub use lines::{CatastropheLines, NonLifeLines, catastrophe_lines, non_life_lines};
 use modules::{Choice, End, Line, RiskModule, Root};
-use parts::{line, root};
+use parts::{choice, line, root};
+pub use shares::{Equity, equity};
 pub use spread::Spread;
 
 // Life, non-life, catastrophe, market, credit.
@@ -26,12 +24,9 @@ pub type Standard<N, C> = Root<(Line, (N, (C, (Market, (Line, End)))))>;
 
 // Spread up where the total of line 15 is at least that of line 16, else spread down.
 fn market() -> Market
-    ensures { market_of result ≡ market_tree }
+    ensures { ⟦<Market as RiskModule>⟧.tree result ≡ market_tree }
 {
-    let Ok(market) = Choice::new(15, 16, Spread::Up, Spread::Down) else {
-        unreachable()
-    };
-    market
+    choice(15, 16, Spread::Up, Spread::Down)
 }
 
 // The standard tree over the company's own two modules.
@@ -39,7 +34,7 @@ pub fn standard<N: RiskModule + Drop, C: RiskModule + Drop>(
     non_life: N,
     catastrophe: C,
 ) -> Standard<N, C>
-    ensures tree { standard_of N.RiskModule.tree C.RiskModule.tree result ≡ standard_tree (N.RiskModule.tree non_life) (C.RiskModule.tree catastrophe) }
+    ensures tree { ⟦<Standard<N, C> as RiskModule>⟧.tree result ≡ standard_tree (N.RiskModule.tree non_life) (C.RiskModule.tree catastrophe) }
     ensures twenty { Twenty (N.RiskModule.tree non_life) (C.RiskModule.tree catastrophe) }
 {
     let life = line(1);

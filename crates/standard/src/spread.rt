@@ -1,15 +1,18 @@
 // Spread up or down, with the rest of market.
+ghost use Rattle.std.specs.Prelude.{◌≡◌, [], ◌∷◌};
 ghost use Rattle.modules.specs.Charged.{charged};
+ghost use Rattle.modules.specs.Trees.{line as line_of};
 ghost use Rattle.standard.specs.Parts.{spread_of};
+ghost use Rattle.standard.specs.Standard.{forest_of, equity_tree, real_estate_tree, currency_tree, up_tree, down_tree};
 ghost use Rattle.standard.specs.Standing.{spread_tabled};
 ghost use Rattle.modules.proofs.Plainly.{charged_bounded};
 ghost use Rattle.std.proofs.Common.{rules};
 
-use crate::equity::Equity;
-use crate::part;
-use crate::part::Part;
 use crate::parts::{line, root, sum};
-use modules::{Branches, Charge, End, Greater, Line, PlainModule, RiskModule, Root, Sheet, Sum};
+use crate::shares::{Equity, equity};
+use modules::{
+    Branches, Charge, End, Greater, Line, PlainModule, RiskModule, Root, Sheet, Sum, plain_price,
+};
 use refusals::Refusal;
 
 // Interest, spread up, equity, real estate, currency, concentration.
@@ -22,24 +25,43 @@ type RealEstate = Sum<(Line, (Line, End))>;
 
 type Rest = (Equity, (RealEstate, (Greater<Line, Line>, (Line, End))));
 
+type Made = Root<(Line, (Line, Rest))>;
+
+// Made whenever it is asked. Its two roots by value in the standard tree were tried, and the check ran out of memory.
 #[derive(Clone, Copy)]
 pub enum Spread {
     Up,
     Down,
 }
 
-impl Part for Spread {
-    type Module = Root<(Line, (Line, Rest))>;
+// Equity, real estate, currency, concentration.
+fn rest() -> Rest
+    ensures { ⟦<Rest as Branches>⟧.forest result ≡ forest_of (equity_tree ∷ real_estate_tree ∷ currency_tree ∷ line_of 28 ∷ []) }
+{
+    let real_estate = sum((line(24), (line(25), End)));
+    let currency = Greater::new(line(26), line(27));
+    (equity(), (real_estate, (currency, (line(28), End))))
+}
 
-    ghost part = { spread_of };
+fn up() -> Made
+    ensures { ⟦<Made as RiskModule>⟧.tree result ≡ up_tree }
+{
+    root(&UP, (line(14), (line(15), rest())))
+}
 
-    fn module(&self) -> Root<(Line, (Line, Rest))> {
-        let real_estate = sum((line(24), (line(25), End)));
-        let currency = Greater::new(line(26), line(27));
-        let rest = (Equity, (real_estate, (currency, (line(28), End))));
+fn down() -> Made
+    ensures { ⟦<Made as RiskModule>⟧.tree result ≡ down_tree }
+{
+    root(&DOWN, (line(14), (line(16), rest())))
+}
+
+impl Spread {
+    fn made(self) -> Made
+        ensures { ⟦<Made as RiskModule>⟧.tree result ≡ spread_of self }
+    {
         match self {
-            Spread::Up => root(&UP, (line(14), (line(15), rest))),
-            Spread::Down => root(&DOWN, (line(14), (line(16), rest))),
+            Spread::Up => up(),
+            Spread::Down => down(),
         }
     }
 }
@@ -54,15 +76,15 @@ impl RiskModule for Spread {
     ghost bounded = { λ m s. charged_bounded (spread_of m) (spread_tabled m) s };
 
     fn gross(&self, sheet: &Sheet) -> Result<u32, Refusal> {
-        part::gross(self, sheet)
+        self.made().gross(sheet)
     }
 
     fn roundings(&self, sheet: &Sheet) -> Result<u32, Refusal> {
-        part::roundings(self, sheet)
+        self.made().roundings(sheet)
     }
 
     fn charge(&self, sheet: &Sheet) -> Result<Charge, Refusal> {
-        part::charge(self, sheet)
+        plain_price(&self.made(), sheet)
     }
 }
 
