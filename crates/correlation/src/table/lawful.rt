@@ -29,6 +29,7 @@ impl Entries {
         ensures value { result ≡ excess_of_row self.now.size (entry_in self.now) i j }
         ensures bound { result ≤ 65025 * self.now.size }
     {
+        // A loop, since the proof that a chain's `sum` fits did not close.
         let mut sum = 0;
         for k in 0..self.size {
             sum += self.excess_at(i, j, k);
