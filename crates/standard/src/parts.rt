@@ -7,6 +7,9 @@ ghost use Rattle.modules.specs.Trees.{Few, branch_count, line as line_of, sum as
 use correlation::Table;
 use modules::{Branches, Choice, Line, RiskModule, Root, Sum};
 
+// The numbers and entries are constants, and each stands in one call: types for those that are in range would be
+// made of the same constants under the same `requires`, and so are no plainer.
+
 pub(crate) fn line(number: usize) -> Line
     requires { IsLine number }
     ensures { ⟦<Line as RiskModule>⟧.tree result ≡ line_of number }
