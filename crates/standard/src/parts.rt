@@ -7,8 +7,7 @@ ghost use Rattle.modules.specs.Trees.{Few, branch_count, line as line_of, sum as
 use correlation::Table;
 use modules::{Branches, Choice, Line, RiskModule, Root, Sum};
 
-// The numbers and entries are constants, and each stands in one call: types for those that are in range would be
-// made of the same constants under the same `requires`, and so are no plainer.
+// Numbers and entries are constants, each in one call: a type for those in range would ask the same `requires`, and be no plainer.
 
 pub(crate) fn line(number: usize) -> Line
     requires { IsLine number }
