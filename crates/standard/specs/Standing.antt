@@ -1,11 +1,11 @@
 -- The tables of the standard tree are lawful, and its roundings are counted. Assumes nothing.
-use Rattle.std.specs.Prelude.{◌≡◌, refl, Bool, true, false, cond, ℕ}
-use Rattle.std.proofs.Common.{arith}
+use Rattle.std.specs.Prelude.{◌≡◌, refl, Bool, true, false, cond, ℕ, [], ◌∷◌}
+use Rattle.std.proofs.Common.{rules, arith}
 use Rattle.correlation.proofs.Computed.{lawful_by}
-use Rattle.modules.specs.Bounds.{Tabled}
-use Rattle.modules.specs.Trees.{Tree, first_taken}
+use Rattle.modules.specs.Bounds.{Tabled, TabledAll}
+use Rattle.modules.specs.Trees.{Tree, line, first_taken}
 use Rattle.standard.specs.Parts.{spread_of}
-use Rattle.standard.specs.Standard.{TablesLawful, Twenty, top_entries, up_entries, down_entries, shares_entries, emerging_entries, equity_tree, up_tree, down_tree}
+use Rattle.standard.specs.Standard.{TablesLawful, Twenty, top_entries, up_entries, down_entries, shares_entries, emerging_entries, forest_of, equity_tree, real_estate_tree, currency_tree}
 use Rattle.standard.specs.declared.spread.Spread.{Spread}
 use Rattle.standard.specs.declared.spread.Spread.TheVariants.{Up, Down}
 
@@ -27,15 +27,9 @@ pub twenty : (t u : Tree) → Twenty t u
 twenty t u s = omega (arith, same (first_taken s 15 16) 17)
 
 -- so every table of the parts is
-pub equity_tabled : Tabled equity_tree
-equity_tabled = (tt, ((tables_lawful.shares.lawful, ((tt, (tt, tt)), ((tables_lawful.emerging.lawful, (tt, (tt, tt))), (tt, (tt, tt))))), tt))
-
-pub up_tabled : Tabled up_tree
-up_tabled = (tables_lawful.up.lawful, (tt, (tt, (equity_tabled, ((tt, (tt, tt)), ((tt, tt), (tt, tt)))))))
-
-pub down_tabled : Tabled down_tree
-down_tabled = (tables_lawful.down.lawful, (tt, (tt, (equity_tabled, ((tt, (tt, tt)), ((tt, tt), (tt, tt)))))))
+rest_tabled : TabledAll (forest_of (equity_tree ∷ real_estate_tree ∷ currency_tree ∷ line 28 ∷ []))
+rest_tabled = search (rules, tables_lawful.shares.lawful, tables_lawful.emerging.lawful)
 
 pub spread_tabled : (m : Spread) → Tabled (spread_of m)
-spread_tabled Up = up_tabled
-spread_tabled Down = down_tabled
+spread_tabled Up = (tables_lawful.up.lawful, (tt, (tt, rest_tabled)))
+spread_tabled Down = (tables_lawful.down.lawful, (tt, (tt, rest_tabled)))

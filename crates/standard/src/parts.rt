@@ -7,6 +7,8 @@ ghost use Rattle.modules.specs.Trees.{Few, branch_count, line as line_of, sum as
 use correlation::Table;
 use modules::{Branches, Choice, Line, RiskModule, Root, Sum};
 
+// Numbers and entries are constants, each in one call: a type for those in range would ask the same `requires`, and be no plainer.
+
 pub(crate) fn line(number: usize) -> Line
     requires { IsLine number }
     ensures { ⟦<Line as RiskModule>⟧.tree result ≡ line_of number }

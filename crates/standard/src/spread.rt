@@ -27,7 +27,7 @@ type Rest = (Equity, (RealEstate, (Greater<Line, Line>, (Line, End))));
 
 type Made = Root<(Line, (Line, Rest))>;
 
-// Made whenever it is asked. Its two roots by value in the standard tree were tried, and the check ran out of memory.
+// Made whenever it is asked: by value in the standard tree it was tried, and the proof did not close, for want of memory.
 #[derive(Clone, Copy)]
 pub enum Spread {
     Up,
