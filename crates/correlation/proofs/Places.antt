@@ -34,6 +34,13 @@ place_lt n i j h l = omega (arith, place_in_row n i j h l, row_start_mono n (suc
 pub above_count_few : (n : ℕ) → n ≤ most_branches → 2 * above_count n ≤ most_branches * (most_branches - 1)
 above_count_few n h = omega (arith, row_start_closed n n (le_refl n), mul-le-mul_right n h)
 
+pub count_is : (n : ℕ) → 1 ≤ n → n * (n - 1) / 2 ≡ above_count n
+count_is n some =
+    let before = n - 1 in
+    let more : before + 1 ≡ n = omega arith in
+    let own : 2 * n - n ≡ n = omega arith in
+    omega (arith, row_start_is n n (le_refl n), ap (λ x. n * x) more, ap (λ x. n * x) own)
+
 place_earlier : (n i j a b : ℕ) → i < j → j < n → a < b → b < n → i < a → place n i j < place n a b
 place_earlier n i j a b ij jn ab bn ia = omega (arith, place_in_row n i j ij jn, row_start_mono n (suc i) a ia)
 

@@ -1,7 +1,7 @@
 -- What a table stands for, and what each call of it answers.
-use Rattle.std.specs.Prelude.{◌≡◌, ℕ, cond, ◌&&◌, List, length, take, Some, None, Ok, Err, Option, Result, ◌==◌, nat_lt, slice_index}
+use Rattle.std.specs.Prelude.{◌≡◌, ℕ, cond, ◌&&◌, List, length, take, Some, None, Ok, Err, Option, Result, ◌==◌, nat_lt, nat_le, slice_index}
 use Rattle.correlation.specs.Roots.{root}
-use Rattle.correlation.specs.Tables.{Branches, Within, above_count, entry, square_entry}
+use Rattle.correlation.specs.Tables.{most_branches, Branches, Within, above_count, entry, square_entry}
 use Rattle.correlation.specs.declared.table.Table.{Table}
 use Rattle.refusals.specs.declared.Refusal.{Refusal}
 use Rattle.refusals.specs.declared.Refusal.TheVariants.{TableNotLawful}
@@ -24,6 +24,10 @@ charge_of_branch cs i = slice_index cs i
 -- refusal 24 at place 0
 abbrev pub unlawful : Refusal
 unlawful = TableNotLawful 0
+
+-- how many entries stand above the diagonal, where a table may have so many branches
+abbrev pub entry_count_answer : ℕ → Option ℕ
+entry_count_answer n = cond (nat_le 1 n && nat_le n most_branches) (Some (above_count n)) None
 
 -- the table in which no two branches of n go together
 pub record Independent (n : ℕ) (t : Table) : Type 0 where

@@ -3,4 +3,4 @@
 
 mod table;
 
-pub use table::{BRANCHES, Table};
+pub use table::{BRANCHES, ENTRIES, Table, entry_count};

@@ -7,18 +7,20 @@ mod methods;
 mod roots;
 mod square;
 
+pub use entries::entry_count;
+
 // How many branches a table may have at most.
 pub const BRANCHES: usize = 8;
 
 // How many entries stand above the diagonal of the largest table.
-const ABOVE: usize = BRANCHES * (BRANCHES - 1) / 2;
+pub const ENTRIES: usize = BRANCHES * (BRANCHES - 1) / 2;
 
 // How the charges of 1 to 8 branches go together: an entry in hundredths for each two of them.
 #[derive(Clone, Copy)]
 pub struct Table {
     size: usize,
     // Above the diagonal, row by row.
-    above: [u8; ABOVE],
+    above: [u8; ENTRIES],
     ghost branches: { Branches size },
     ghost range: { InRange size (entry size above) },
     ghost diagonal: { Diagonal size (entry size above) },

@@ -1,8 +1,21 @@
 // Where an entry stands among those above the diagonal.
 ghost use Rattle.std.specs.Prelude.{◌≡◌, ◌<◌, ◌≤◌, length};
+ghost use Rattle.correlation.specs.Answers.{entry_count_answer};
 ghost use Rattle.correlation.specs.Tables.{most_branches, start_of_row, above_count, entry};
 
-// Where row `i` begins, or, at the size, how many entries there are.
+use super::BRANCHES;
+
+// How many entries stand above the diagonal, where a table may have so many branches.
+pub fn entry_count(size: usize) -> Option<usize>
+    ensures { result ≡ entry_count_answer size }
+{
+    if size == 0 || size > BRANCHES {
+        return None;
+    }
+    Some(size * (size - 1) / 2)
+}
+
+// Where row `i` begins.
 pub(crate) fn row_start(size: usize, i: usize) -> usize
     requires few { size ≤ most_branches }
     requires within { i ≤ size }

@@ -3,8 +3,8 @@ ghost use Rattle.std.specs.Prelude.{◌≡◌, ℕ, ◌+◌, ◌-◌, ◌*◌, �
 ghost use Rattle.correlation.specs.Answers.{HasAbove};
 ghost use Rattle.correlation.specs.Tables.{most_branches, above_count, entry, excess_of_row, RowCondition, LawfulAbove};
 
-use super::entries::{entry_at, row_start};
-use super::{ABOVE, BRANCHES, Table};
+use super::entries::{entry_at, entry_count};
+use super::{ENTRIES, Table};
 
 // By how much the product of `i` with `j` and `j` with `k` passes 100 times that of `i` with `k`; nothing at `i` itself.
 fn excess_at(size: usize, above: &[u8], i: usize, j: usize, k: usize) -> u32
@@ -70,11 +70,11 @@ pub(crate) fn rows_hold(size: usize, above: &[u8]) -> bool
 }
 
 // The entries as they stand in a table, or nothing where one is above 100.
-fn narrowed(entries: &[u32]) -> Option<[u8; ABOVE]>
+fn narrowed(entries: &[u32]) -> Option<[u8; ENTRIES]>
     requires { length entries.now ≤ 28 }
     ensures { MatchOption result ((k : ℕ) × (k < length entries.now) × (100 < slice_index entries.now k)) (λ above. take (length entries.now) above ≡ entries.now) }
 {
-    let mut above = [0u8; ABOVE];
+    let mut above = [0u8; ENTRIES];
     for (k, e) in entries.iter().enumerate() {
         if *e > 100 {
             return None;
@@ -88,7 +88,7 @@ fn narrowed(entries: &[u32]) -> Option<[u8; ABOVE]>
 pub(crate) fn lawful_table(size: usize, entries: &[u32]) -> Option<Table>
     ensures { MatchOption result (LawfulAbove size entries.now → ⊥) (λ t. LawfulAbove size entries.now × HasAbove size entries.now t) }
 {
-    if size == 0 || size > BRANCHES || entries.len() != row_start(size, size) {
+    if entry_count(size)? != entries.len() {
         return None;
     }
     let above = narrowed(entries)?;

@@ -3,10 +3,10 @@ ghost use Rattle.std.specs.Prelude.{◌≡◌};
 ghost use Rattle.correlation.specs.Answers.{size_of, entry_answer, Made, Replaced, HasAbove, HasSquare};
 ghost use Rattle.correlation.specs.Tables.{LawfulAbove, LawfulSquare};
 
-use super::entries::{entry_at, row_start};
+use super::entries::{entry_at, entry_count};
 use super::lawful::lawful_table;
 use super::square::{mirrored, upper};
-use super::{ABOVE, BRANCHES, Table};
+use super::{ENTRIES, Table};
 use refusals::Refusal;
 
 // The one refusal of this crate.
@@ -17,12 +17,10 @@ impl Table {
     pub fn new(size: usize) -> Result<Table, Refusal>
         ensures { Made size result }
     {
-        if size == 0 || size > BRANCHES {
-            return Err(UNLAWFUL);
-        }
+        entry_count(size).ok_or(UNLAWFUL)?;
         Ok(Table {
             size,
-            above: [0; ABOVE],
+            above: [0; ENTRIES],
         })
     }
 
@@ -61,10 +59,11 @@ impl Table {
     pub fn replace(&mut self, size: usize, square: &[u32]) -> Result<(), Refusal>
         ensures { Replaced (LawfulSquare size square.now) (HasSquare size square.now) self.old self.new result }
     {
-        if size > BRANCHES || square.len() != size * size || !mirrored(size, square) {
+        let count = entry_count(size).ok_or(UNLAWFUL)?;
+        if square.len() != size * size || !mirrored(size, square) {
             return Err(UNLAWFUL);
         }
         let above = upper(size, square);
-        self.replace_above(size, &above[0..row_start(size, size)])
+        self.replace_above(size, &above[..count])
     }
 }

@@ -2,7 +2,7 @@
 ghost use Rattle.std.specs.Prelude.{◌≡◌, ℕ, suc, ◌*◌, ◌<◌, ◌≤◌, length, Decides};
 ghost use Rattle.correlation.specs.Tables.{most_branches, start_of_row, above_count, square_entry, Diagonal, Symmetric, Copied};
 
-use super::ABOVE;
+use super::ENTRIES;
 use super::entries::row_start;
 
 // Whether row `i` has 100 on the diagonal and equals column `i`.
@@ -49,12 +49,12 @@ fn copy_row(size: usize, square: &[u32], i: usize, above: &mut [u32])
 }
 
 // The entries above the diagonal, row by row.
-pub(crate) fn upper(size: usize, square: &[u32]) -> [u32; ABOVE]
+pub(crate) fn upper(size: usize, square: &[u32]) -> [u32; ENTRIES]
     requires few { size ≤ most_branches }
     requires whole { length square.now ≡ size * size }
     ensures { Copied size square.now result (above_count size) }
 {
-    let mut above = [0u32; ABOVE];
+    let mut above = [0u32; ENTRIES];
     for row in 0..size {
         copy_row(size, square, row, &mut above);
     }

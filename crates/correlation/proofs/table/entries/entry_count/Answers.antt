@@ -1,0 +1,7 @@
+-- What is left to show of `entry_count`.
+use Rattle.std.proofs.Common.{arith, rules}
+use Rattle.correlation.proofs.Places.{count_is}
+use Rattle.correlation.proofs.table.entries.entry_count.Goals as goal
+
+pub returns : goal.returns
+returns c = let is = count_is c.args.size (omega arith) in search rules
