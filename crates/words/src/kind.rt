@@ -1,6 +1,9 @@
 // The kinds of words, and a word by its kind and its value.
-ghost use Rattle.std.specs.Prelude.{◌≡◌, ◌%◌, ◌<◌};
-ghost use Rattle.words.specs.Words.{KindOf, kind_number, value_room, word};
+ghost use Rattle.std.specs.Prelude.{◌≡◌, ◌%◌, ◌<◌, Decides};
+ghost use Rattle.words.specs.Words.{KindOf, ValueInRange, kind_number, value_room, word};
+
+use correlation::BRANCHES;
+use modules::LINES;
 
 // The largest value of a word, in its low 28 bits.
 pub const MOST_VALUE: u32 = 0x0fff_ffff;
@@ -36,6 +39,18 @@ impl Kind {
         ensures whole { value < value_room → result ≡ word (kind_number self) value }
     {
         (self as u32) << 28 | value & MOST_VALUE
+    }
+
+    // Whether a branch of this kind may have this value.
+    pub(crate) fn allows(self, value: usize) -> bool
+        ensures { Decides result (ValueInRange (kind_number self) value) }
+    {
+        match self {
+            Kind::Line => (1..=LINES).contains(&value),
+            Kind::Greater => value == 2,
+            Kind::Sum | Kind::Root => (1..=BRANCHES).contains(&value),
+            Kind::Entry => false,
+        }
     }
 }
 

@@ -1,12 +1,12 @@
 // The words that a tree is written in, and a reader that tells the number and the place of the first fault.
 #![tactic(auto)]
 
+mod cursor;
 mod item;
 mod kind;
 mod opening;
 mod reader;
 mod table;
-mod word;
 
 pub use item::Item;
 pub use kind::{Kind, MOST_VALUE, value_of};
