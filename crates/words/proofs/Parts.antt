@@ -1,8 +1,10 @@
 -- A word and its parts, and the entries at the front of words. Assumes nothing.
-use Rattle.std.proofs.Common.{◌≡◌, ℕ, suc, ◌+◌, ◌-◌, ◌/◌, ◌%◌, ◌<◌, ◌≤◌, List, [], ◌∷◌, ◌++◌, length, get_or, take, Some, sym, refl, ap, ◌∙◌, inl, inr, append_assoc, arith, length-append, below_more}
+use Rattle.std.proofs.Common.{◌≡◌, ℕ, suc, ◌+◌, ◌-◌, ◌/◌, ◌%◌, ◌<◌, ◌≤◌, List, [], ◌∷◌, ◌++◌, length, get_or, take, Some, Err, Result, subst, sym, refl, ap, ◌∙◌, inl, inr, append_assoc, arith, length-append, below_more}
 use Rattle.correlation.proofs.Places.{above_count_few}
 use Rattle.correlation.specs.Answers.{entry_count_answer}
 use Rattle.correlation.specs.Tables.{most_branches, above_count}
+use Rattle.std.specs.Result.{IsErrAnd}
+use Rattle.std.proofs.lemmas.Result.{err_from_is_err_and}
 use Rattle.std.proofs.lemmas.Nat.{div-add-mod', mod_below, mod-mul-add}
 use Rattle.std.proofs.lemmas.List.{get_or_append_left, get_or_at, take_at}
 use Rattle.refusals.specs.declared.Refusal.{Refusal}
@@ -35,9 +37,6 @@ entry-words-++ (e ∷ es) fs = ap (λ x. word entry_kind e ∷ x) (entry-words-+
 pub length_entry_words : (es : List ℕ) → length (entry_words es) ≡ length es
 length_entry_words [] = refl
 length_entry_words (e ∷ es) = omega (arith, length_entry_words es)
-
-pub entered_length : (n : ℕ) (ws es rest : List ℕ) → Entered n es → ws ≡ entry_words es ++ rest → length ws ≡ n + length rest
-entered_length n ws es rest ok e = omega (arith, simp length-append at (ap length e), length_entry_words es, ok.count)
 
 -- the place of what stands behind some of a cursor's words
 pub place_behind : (from rest : Cursor) (own : List ℕ) → from.words.now ≡ own ++ rest.words.now → IsBehind from rest → rest.place ≡ from.place + length own
@@ -106,3 +105,9 @@ entry_alone Sum e = absurd (omega arith)
 entry_alone Greater e = absurd (omega arith)
 entry_alone Root e = absurd (omega arith)
 entry_alone Entry e = refl
+
+-- what is said of a refusal is said of the answer that hands it on
+pub handed_on : {T : Type 0} {e : Refusal} {r : Result T Refusal} (P : Result T Refusal → Type 0) → IsErrAnd r (λ x. x ≡ e) → P (Err e) → P r
+handed_on {r = r} P is holds =
+    let p = err_from_is_err_and r is in
+    subst P (sym (p.1 ∙ ap Err p.2)) holds

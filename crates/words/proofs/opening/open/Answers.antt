@@ -1,18 +1,15 @@
 -- The first word tells the head, or what is wrong with it.
-use Rattle.std.proofs.lemmas.Result.{err_from_is_err_and}
 use Rattle.words.specs.Faults.HeadFault.{word}
+use Rattle.words.specs.Steps.{Opening}
+use Rattle.words.proofs.Parts.{handed_on}
 use Rattle.words.proofs.Opened.{no_head, root_opened}
 use Rattle.words.proofs.opening.open.Goals as goal
 
 pub returns-in_err-kind : goal.returns-in_err-kind
-returns-in_err-kind c =
-    let p = err_from_is_err_and c.from_residual.result c.from_residual.ensures.1 in
-    rw (p.1, p.2) (no_head _ _ _ _ c.in_err-kind.ensures)
+returns-in_err-kind c = handed_on (Opening c.args.depth c.args.from) c.from_residual.ensures.1 (no_head _ _ _ _ c.in_err-kind.ensures)
 
 pub returns-in_err-check_word : goal.returns-in_err-check_word
-returns-in_err-check_word c =
-    let p = err_from_is_err_and c.from_residual-in_err-check_word.result c.from_residual-in_err-check_word.ensures.1 in
-    rw (p.1, p.2) (word _ _ _ c.in_ok-kind.ensures.0 c.in_err-check_word.ensures)
+returns-in_err-check_word c = handed_on (Opening c.args.depth c.args.from) c.from_residual-in_err-check_word.ensures.1 (word _ _ _ c.in_ok-kind.ensures.0 c.in_err-check_word.ensures)
 
 pub returns-in-Root : goal.returns-in-Root
 returns-in-Root c =

@@ -1,14 +1,13 @@
 -- The entries that were read are as many as the table has, and stand first.
 use Rattle.std.proofs.Common.{sym, refl, ◌∙◌, arith}
-use Rattle.std.proofs.lemmas.Result.{err_from_is_err_and}
-use Rattle.words.proofs.Parts.{counted, passed, place_behind}
+use Rattle.words.specs.Steps.{RootOpening}
+use Rattle.words.proofs.Parts.{handed_on, counted, passed, place_behind}
 use Rattle.words.proofs.opening.open_root.Goals as goal
 
 pub returns-in_err-rest : goal.returns-in_err-rest
 returns-in_err-rest c =
-    let p = err_from_is_err_and c.from_residual.result c.from_residual.ensures.1 in
     let count = counted c.args.count c.unwrap.result (sym c.entry_count.ensures ∙ c.unwrap.ensures) in
-    rw (p.1, p.2) (rw count at c.in_err-rest.ensures)
+    handed_on (RootOpening c.args.count c.args.from) c.from_residual.ensures.1 (rw count at c.in_err-rest.ensures)
 
 pub up_to-requires : goal.up_to-requires
 up_to-requires c =

@@ -1,15 +1,14 @@
 -- Each turn reads one entry more.
 use Rattle.std.proofs.Common.{◌∙◌}
-use Rattle.std.proofs.lemmas.Result.{err_from_is_err_and}
-use Rattle.words.proofs.Parts.{entered_place, entered_more}
+use Rattle.words.specs.Steps.{EntriesRead}
+use Rattle.words.proofs.Parts.{handed_on, entered_place, entered_more}
 use Rattle.words.proofs.opening.read_entries.Goals as goal
 
 pub returns-in_err-rest : goal.returns-in_err-rest
 returns-in_err-rest c =
-    let p = err_from_is_err_and c.from_residual.result c.from_residual.ensures.1 in
     let inv = c.loop.invariant in
     let at = entered_place _ c.args.from c.loop.rest inv.0 inv.1 inv.2 inv.3 in
-    rw (p.1, p.2) (c.loop.counter, inv.0, c.loop.rest.words.now, c.loop-test.true, inv.1, inv.2, rw at at c.in_err-rest.ensures)
+    handed_on (EntriesRead c.args.count c.args.from) c.from_residual.ensures.1 (c.loop.counter, inv.0, c.loop.rest.words.now, c.loop-test.true, inv.1, inv.2, rw at at c.in_err-rest.ensures)
 
 pub loop-preserved : goal.loop-preserved
 loop-preserved c =

@@ -1,31 +1,27 @@
 -- A head and as many branches as are due make a branch; a fault of the head, of the table or of the branches is the branch's.
 use Rattle.std.proofs.Common.{◌≤◌, ◌-◌, [], sym, refl, ◌∙◌, subst, append-nil, arith}
 use Rattle.modules.specs.Trees.{none}
-use Rattle.std.proofs.lemmas.Result.{err_from_is_err_and}
 use Rattle.words.specs.Faults.{Fault, Faults}
 use Rattle.words.specs.Items.{Shows}
-use Rattle.words.proofs.Parts.{passed}
+use Rattle.words.specs.Steps.{BranchesRead, ReadFrom}
+use Rattle.words.proofs.Parts.{handed_on, passed}
 use Rattle.words.proofs.Reading.{whole, under_read, more_read}
 use Rattle.words.proofs.reader.+read_branch_read_branches.Goals as goal
 
 pub read_branch-returns-in_err-item : goal.read_branch-returns-in_err-item
-read_branch-returns-in_err-item t c =
-    let p = err_from_is_err_and c.from_residual.result c.from_residual.ensures.1 in
-    rw (p.1, p.2) (Fault.head c.in_err-item.ensures)
+read_branch-returns-in_err-item t c = handed_on (ReadFrom c.args.depth c.args.from) c.from_residual.ensures.1 (Fault.head c.in_err-item.ensures)
 
 pub read_branch-returns-in_err-check_table : goal.read_branch-returns-in_err-check_table
 read_branch-returns-in_err-check_table t c =
-    let p = err_from_is_err_and c.from_residual-in_err-check_table.result c.from_residual-in_err-check_table.ensures.1 in
     let o = c.in_ok-item.ensures in
     let q = c.in_err-check_table.ensures in
-    rw (p.1, p.2) (Fault.table {place = c.args.from.place} o.0 _ o.1 (q.0 o.0 _ o.1.in_range o.2) q.1)
+    handed_on (ReadFrom c.args.depth c.args.from) c.from_residual-in_err-check_table.ensures.1 (Fault.table {place = c.args.from.place} o.0 _ o.1 (q.0 o.0 _ o.1.in_range o.2) q.1)
 
 pub read_branch-returns-in_err-rest : goal.read_branch-returns-in_err-rest
 read_branch-returns-in_err-rest t c =
-    let p = err_from_is_err_and c.from_residual-in_err-rest.result c.from_residual-in_err-rest.ensures.1 in
     let o = c.in_ok-item.ensures in
     let law = c.in_ok-check_table.ensures o.0 _ o.1.in_range o.2 in
-    rw (p.1, p.2) (under_read _ c.args.from c.in_ok-item.behind o.1 o.3 law (c.branches_due.ensures o.0 _ o.2) c.in_err-rest.ensures)
+    handed_on (ReadFrom c.args.depth c.args.from) c.from_residual-in_err-rest.ensures.1 (under_read _ c.args.from c.in_ok-item.behind o.1 o.3 law (c.branches_due.ensures o.0 _ o.2) c.in_err-rest.ensures)
 
 pub read_branch-returns : goal.read_branch-returns
 read_branch-returns t c =
@@ -42,9 +38,8 @@ read_branches-returns-then-count-eq0 t c = (none, [], refl, sym c.if-count-eq0.t
 
 pub read_branches-returns-in_err-rest : goal.read_branches-returns-in_err-rest
 read_branches-returns-in_err-rest t c =
-    let p = err_from_is_err_and c.from_residual.result c.from_residual.ensures.1 in
     let some : 1 ≤ c.args.count = omega arith in
-    rw (p.1, p.2) (Faults.here some c.in_err-rest.ensures)
+    handed_on (BranchesRead c.args.count c.args.depth c.args.from) c.from_residual.ensures.1 (Faults.here some c.in_err-rest.ensures)
 
 pub read_branches-returns : goal.read_branches-returns
 read_branches-returns t c =
