@@ -75,10 +75,6 @@ root_in_range v (inl other) = absurd (omega (arith, other.0))
 root_in_range v (inr (inl other)) = absurd (omega (arith, other.0))
 root_in_range v (inr (inr own)) = (own.1, own.2)
 
-pub values_push : (ws : List ℕ) (w : ℕ) → values (ws ++ w ∷ []) ≡ values ws ++ (w % value_room) ∷ []
-values_push [] w = refl
-values_push (v ∷ ws) w = ap (λ l. v % value_room ∷ l) (values_push ws w)
-
 pub length_values : (ws : List ℕ) → length (values ws) ≡ length ws
 length_values [] = refl
 length_values (w ∷ ws) = omega (arith, length_values ws)

@@ -54,6 +54,7 @@ pub fn read<'a>(words: &'a [u32]) -> Result<Item<'a>, Refusal>
     ensures places { LeftToRight words.now }
 {
     let (item, rest) = first_branch(words)?;
+    // (`first_branch` promises its callers words alone, so their place is counted here.)
     let covered = words.len() - rest.len();
     if !rest.is_empty() {
         return Err(Refusal::WordsLeftOver(covered));

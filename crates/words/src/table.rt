@@ -6,17 +6,17 @@ ghost use Rattle.words.specs.Items.{TableOf, values};
 use crate::kind::value_of;
 use correlation::{ENTRIES, Table};
 use refusals::Refusal;
+use std::array;
 
 // The values of the words, from the front.
 fn values_of(words: &[u32]) -> [u32; ENTRIES]
     requires { length words.now ≤ above_count most_branches }
     ensures { take (length words.now) result ≡ values words.now }
 {
-    let mut all = [0u32; ENTRIES];
-    for (k, word) in words.iter().enumerate() {
-        all[k] = value_of(*word);
-    }
-    all
+    array::from_fn(|k| match words.get(k) {
+        Some(word) => value_of(*word),
+        None => 0,
+    })
 }
 
 // The table of so many branches whose entries are the values of these words, row by row above the diagonal.
