@@ -1,13 +1,12 @@
 -- Words are refused exactly where they read as no tree, and by one refusal. Assumes nothing.
-use Rattle.std.proofs.Common.{◌≡◌, ℕ, suc, ◌≤◌, List, [], ◌++◌, length, Ok, Err, Result, sym, ap, ◌∙◌, subst, inl, inr, append-nil, arith}
+use Rattle.std.proofs.Common.{◌≡◌, ℕ, suc, List, [], ◌++◌, length, Ok, Err, Result, sym, ap, ◌∙◌, subst, inl, inr, append-nil, arith}
 use Rattle.modules.specs.Trees.{Tree}
 use Rattle.refusals.specs.declared.Refusal.{Refusal}
 use Rattle.refusals.specs.declared.Refusal.TheVariants.{WordsLeftOver}
 use Rattle.words.specs.Faults.{Fault, LeftOver, Refused, RefusedExactly}
 use Rattle.words.specs.Grammar.{Branches, Reads}
 use Rattle.words.specs.Heads.{HeadOf}
-use Rattle.words.specs.Items.{Opened, Shows, BranchRead, FirstBranch, OwnBranch, ReadAnswer}
-use Rattle.words.specs.Words.{most_words}
+use Rattle.words.specs.Items.{Opened, Shows, FirstBranch, OwnBranch, ReadAnswer}
 use Rattle.words.specs.declared.item.Item.{Item}
 use Rattle.words.proofs.Heading.{headed}
 use Rattle.words.proofs.OneFault.{fault_sound, fault_unique}
@@ -59,10 +58,6 @@ own_branch ws (Ok p) first t depth bs behind few deep e b =
     )
 own_branch ws (Err x) (inl many) t depth bs behind few deep e b = omega (arith, many.0, few)
 own_branch ws (Err x) (inr fault) t depth bs behind few deep e b = fault_sound fault.1 t bs behind e (shallower t 1 depth bs deep b)
-
-pub first_branch_read : (ws : List ℕ) (r : Result Opened Refusal) → length ws ≤ most_words → BranchRead 1 0 ws r → FirstBranch ws r
-first_branch_read ws (Ok p) few read = (few, read)
-first_branch_read ws (Err e) few fault = inr (few, fault)
 
 pub first_refused : (ws : List ℕ) (e : Refusal) → FirstBranch ws (Err e) → Refused ws e
 first_refused ws e (inl many) = inl many

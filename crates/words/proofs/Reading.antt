@@ -1,18 +1,19 @@
 -- A head, with as many branches behind it as are due, is a branch of a tree. Assumes nothing.
-use Rattle.std.proofs.Common.{◌≡◌, ℕ, suc, ◌+◌, ◌-◌, ◌≤◌, List, [], ◌∷◌, ◌++◌, length, take, Ok, Err, Result, sym, refl, ap, ◌∙◌, subst, append_assoc, append-nil, add-one, arith, length-append, Bor}
+use Rattle.std.proofs.Common.{◌≡◌, ℕ, suc, ◌+◌, ◌≤◌, List, [], ◌∷◌, ◌++◌, length, Ok, Err, Result, sym, refl, ap, ◌∙◌, subst, append_assoc, append-nil, add-one, arith}
 use Rattle.correlation.specs.Tables.{LawfulAbove}
 use Rattle.modules.specs.Trees as trees
 use Rattle.modules.specs.Trees.{Tree, Forest, line, greater, root, choice, none, more, branch_count}
 use Rattle.refusals.specs.declared.Refusal.{Refusal}
-use Rattle.std.proofs.lemmas.List.{take_at}
+use Rattle.words.specs.Cursors.{IsBehind}
 use Rattle.words.specs.Faults.{Fault, Faults}
 use Rattle.words.specs.Grammar.{Branch, Branches}
 use Rattle.words.specs.Heads.{Head, of_line, of_sum, of_greater, of_root, head_words, due, HeadInRange, HeadLawful, HeadOf, Opens}
 use Rattle.words.specs.Items.{Shows, OwnItem}
 use Rattle.words.specs.Steps.{BranchesRead}
 use Rattle.words.specs.Words.{word, entry_words, line_kind, sum_kind, greater_kind, root_kind, most_depth}
+use Rattle.words.specs.declared.cursor.Cursor.{Cursor}
 use Rattle.words.specs.declared.item.Item.{Item}
-use Rattle.words.proofs.Heading.{headed}
+use Rattle.words.proofs.Parts.{place_behind}
 
 -- the tree of a head and of branches
 pub composed : (h : Head) (f : Forest) (depth : ℕ) (bs : List ℕ) → depth ≤ most_depth → HeadInRange h → HeadLawful h → branch_count f ≡ due h → Branches f (suc depth) bs
@@ -53,44 +54,20 @@ whole {depth = depth} {h = h} o law f n bs left e count count' b =
       item = λ i shows. (h, f, bs, made.1, deeper, shows);
     }
 
--- the words before the rest
-pub trimmed : (part ws bs left : List ℕ) → part ≡ take (length ws - length left) ws → ws ≡ bs ++ left → part ≡ bs ++ []
-trimmed part ws bs left is e =
-    let long : length bs ≡ length ws - length left = omega (arith, simp length-append at (ap length e)) in
-    is ∙ ap (take (length ws - length left)) e ∙ take_at bs left _ long ∙ sym (append-nil bs)
-
--- a head takes a word at least, and so does a branch
-pub head_some : (h : Head) → 1 ≤ length (head_words h)
-head_some (of_line n) = omega arith
-head_some (of_sum n) = omega arith
-head_some of_greater = omega arith
-head_some (of_root n es) = omega arith
-
-pub branch_some : (t : Tree) (depth : ℕ) (bs : List ℕ) → Branch t depth bs → 1 ≤ length bs
-branch_some t depth bs b =
-    let own = headed t depth bs b in
-    omega (arith, head_some own.head, simp length-append at (ap length own.opens.words))
-
--- what stands behind a head or a branch
-pub length_behind : (ws own rest : List ℕ) → ws ≡ own ++ rest → length ws ≡ length own + length rest
-length_behind ws own rest e = simp length-append at (ap length e)
-
-pub opens_length : {depth : ℕ} {ws rest : List ℕ} {h : Head} → Opens depth ws h rest → length ws ≡ length (head_words h) + length rest
-opens_length {ws = ws} {rest = rest} {h = h} o = length_behind ws (head_words h) rest o.words
-
 -- a fault of the branches is one of the branch
-pub under_read : {depth : ℕ} {ws rest : List ℕ} {h : Head} {e : Refusal} (place n : ℕ) → Opens depth ws h rest → HeadLawful h → n ≡ due h → Faults n (depth + 1) (place + (length ws - length rest)) rest e → Fault depth place ws e
-under_read {depth = depth} {ws = ws} {rest = rest} {h = h} {e = e} place n o law count faults =
-    let at : place + (length ws - length rest) ≡ place + length (head_words h) = omega (arith, opens_length o) in
-    let here = subst (λ p. Faults n (depth + 1) p rest e) at faults in
-    let due_here = subst (λ m. Faults m (depth + 1) (place + length (head_words h)) rest e) count here in
-    Fault.under h rest o law (subst (λ d. Faults (due h) d (place + length (head_words h)) rest e) (add-one depth) due_here)
+pub under_read : {depth : ℕ} {h : Head} {e : Refusal} (n : ℕ) (from behind : Cursor) → Opens depth from.words.now h behind.words.now → IsBehind from behind → HeadLawful h → n ≡ due h
+    → Faults n (depth + 1) behind.place behind.words.now e → Fault depth from.place from.words.now e
+under_read {depth = depth} {h = h} {e = e} n from behind o next law count faults =
+    let at = place_behind from behind (head_words h) o.words next in
+    let here = subst (λ p. Faults n (depth + 1) p behind.words.now e) at faults in
+    let due_here = subst (λ m. Faults m (depth + 1) (from.place + length (head_words h)) behind.words.now e) count here in
+    Fault.under h behind.words.now o law (subst (λ d. Faults (due h) d (from.place + length (head_words h)) behind.words.now e) (add-one depth) due_here)
 
 -- a branch, and then the others
-pub more_read : (n m depth place : ℕ) (t : Tree) (ws bs rest : List ℕ) (r : Result (Bor (List ℕ)) Refusal) → n ≡ suc m → ws ≡ bs ++ rest → Branch t depth bs → BranchesRead m depth (place + (length ws - length rest)) rest r → BranchesRead n depth place ws r
-more_read n m depth place t ws bs rest (Ok left) one e b read =
-    let (f, cs, e', count, branches) = read in
-    (more t f, bs ++ cs, e ∙ ap (λ l. bs ++ l) e' ∙ sym (append_assoc bs cs left.now), omega (arith, count, one), (bs, cs, refl, b, branches))
-more_read n m depth place t ws bs rest (Err x) one e b faults =
-    let at : place + (length ws - length rest) ≡ place + length bs = omega (arith, length_behind ws bs rest e) in
-    Faults.behind m t bs rest one e b (subst (λ p. Faults m depth p rest x) at faults)
+pub more_read : (n m depth : ℕ) (t : Tree) (from rest : Cursor) (bs : List ℕ) (r : Result Cursor Refusal) → n ≡ suc m → from.words.now ≡ bs ++ rest.words.now → IsBehind from rest → Branch t depth bs
+    → BranchesRead m depth rest r → BranchesRead n depth from r
+more_read n m depth t from rest bs (Ok left) one e next b read =
+    let (f, cs, e', count, branches, behind) = read in
+    (more t f, bs ++ cs, e ∙ ap (λ l. bs ++ l) e' ∙ sym (append_assoc bs cs left.words.now), omega (arith, count, one), (bs, cs, refl, b, branches), behind ∙ next)
+more_read n m depth t from rest bs (Err x) one e next b faults =
+    Faults.behind m t bs rest.words.now one e b (subst (λ p. Faults m depth p rest.words.now x) (place_behind from rest bs e next) faults)

@@ -1,5 +1,6 @@
 -- The definitions of this crate, by file.
 pub mod Words
+pub mod Cursors
 pub mod Grammar
 pub mod Heads
 pub mod Faults

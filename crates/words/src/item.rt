@@ -25,43 +25,42 @@ pub enum Item<'a> {
     },
 }
 
-// How many branches are due behind the head.
-pub(crate) fn branches_due(item: Item) -> usize
-    ensures { (h : Head) (ws : List ℕ) → Shows item.entry h ws → result ≡ due h }
-{
-    match item {
-        Item::Line(_) => 0,
-        Item::Sum { count, .. } => count,
-        Item::Greater { .. } => 2,
-        Item::Root { count, .. } => count,
+impl<'a> Item<'a> {
+    // How many branches are due behind the head.
+    pub(crate) fn branches_due(self) -> usize
+        ensures { (h : Head) (ws : List ℕ) → Shows self.entry h ws → result ≡ due h }
+    {
+        match self {
+            Item::Line(_) => 0,
+            Item::Sum { count, .. } => count,
+            Item::Greater { .. } => 2,
+            Item::Root { count, .. } => count,
+        }
     }
-}
 
-// The same head over these words.
-pub(crate) fn covering<'a>(item: Item<'a>, branches: &'a [u32]) -> Item<'a>
-    ensures { (h : Head) (ws : List ℕ) → Shows item.entry h ws → Shows result h branches.now }
-{
-    match item {
-        Item::Line(line) => Item::Line(line),
-        Item::Sum { count, .. } => Item::Sum { count, branches },
-        Item::Greater { .. } => Item::Greater { branches },
-        Item::Root { count, entries, .. } => Item::Root {
-            count,
-            entries,
-            branches,
-        },
+    // The same head over these words.
+    pub(crate) fn covering(self, branches: &'a [u32]) -> Item<'a>
+        ensures { (h : Head) (ws : List ℕ) → Shows self.entry h ws → Shows result h branches.now }
+    {
+        match self {
+            Item::Line(line) => Item::Line(line),
+            Item::Sum { count, .. } => Item::Sum { count, branches },
+            Item::Greater { .. } => Item::Greater { branches },
+            Item::Root { count, entries, .. } => Item::Root {
+                count,
+                entries,
+                branches,
+            },
+        }
     }
-}
 
-// Whether a root's table is lawful.
-pub(crate) fn check_table(item: Item, place: usize) -> Result<(), Refusal>
-    ensures { TableChecked item.entry place result }
-{
-    match item {
-        Item::Root { count, entries, .. } => match table_of(count, entries) {
-            Ok(_) => Ok(()),
-            Err(_) => Err(Refusal::TableNotLawful(place)),
-        },
-        _ => Ok(()),
+    // Whether a root's table is lawful.
+    pub(crate) fn check_table(self, place: usize) -> Result<(), Refusal>
+        ensures { TableChecked self.entry place result }
+    {
+        if let Item::Root { count, entries, .. } = self {
+            table_of(count, entries).map_err(|_| Refusal::TableNotLawful(place))?;
+        }
+        Ok(())
     }
 }

@@ -1,100 +1,90 @@
 // The head of a branch: its own word, and a root's entries.
-ghost use Rattle.std.specs.Prelude.{◌≡◌, ℕ, suc, ◌≤◌, List, ◌++◌, MatchResult};
-ghost use Rattle.correlation.specs.Tables.{above_count, most_branches};
-ghost use Rattle.words.specs.Faults.{Begins, NoEntry, EntryFault};
-ghost use Rattle.words.specs.Heads.{Entered};
+ghost use Rattle.std.specs.Prelude.{◌≡◌, ℕ, ◌≤◌, List, ◌++◌, MatchResult};
+ghost use Rattle.correlation.specs.Tables.{most_branches};
+ghost use Rattle.words.specs.Faults.{WordFault};
 ghost use Rattle.words.specs.Items.{FirstItem, OwnFirst};
-ghost use Rattle.words.specs.Steps.{Opening, RootOpening};
-ghost use Rattle.words.specs.Words.{entry_words, entry_kind, most_entry, most_words};
+ghost use Rattle.words.specs.Steps.{EntriesRead, EntryRead, Opening, RootOpening};
+ghost use Rattle.words.specs.Words.{ValueInRange, kind_number, most_depth};
 
+use crate::cursor::Cursor;
 use crate::item::Item;
-use crate::word::{ENTRY, GREATER, LINE, SUM, check_word, kind_of, value_of};
+use crate::kind::Kind;
+use correlation::entry_count;
 use refusals::Refusal;
 
 // The largest entry, in hundredths.
 const MOST_ENTRY: u32 = 100;
 
-// How many entries stand above the diagonal of a table.
-fn entry_count(size: usize) -> usize
-    requires some { 1 ≤ size }
-    requires few { size ≤ most_branches }
-    ensures value { result ≡ above_count size }
-    ensures bound { result ≤ above_count most_branches }
+// How deep a branch may stand at most, the outermost at 1.
+const MOST_DEPTH: usize = 6;
+
+// Reads an entry in range.
+fn read_entry(from: Cursor) -> Result<Cursor, Refusal>
+    ensures { EntryRead from.entry result }
 {
-    size * (size - 1) / 2
+    let (kind, value, rest) = from.split_first()?;
+    match kind {
+        Kind::Entry if value > MOST_ENTRY => Err(Refusal::ValueOutOfRange(from.place)),
+        Kind::Entry => Ok(rest),
+        _ => Err(Refusal::KindNotAllowed(from.place)),
+    }
 }
 
-// Whether the words begin with an entry in range.
-fn check_entry(words: &[u32], place: usize) -> Result<(), Refusal>
-    ensures { MatchResult result (λ _. (v : ℕ) × (rest : List ℕ) × Begins words.now entry_kind v rest × (v ≤ most_entry)) (NoEntry place words.now) }
+// Reads so many entries.
+fn read_entries(from: Cursor, count: usize) -> Result<Cursor, Refusal>
+    ensures { EntriesRead count from.entry result }
 {
-    let Some((word, _)) = words.split_first() else {
-        return Err(Refusal::WordsEndEarly(place));
+    let mut rest = from;
+    for _ in 0..count {
+        rest = read_entry(rest)?;
+    }
+    Ok(rest)
+}
+
+// The root of so many branches behind whose word these words stand.
+fn open_root(from: Cursor, count: usize) -> Result<(Item, Cursor), Refusal>
+    requires some { 1 ≤ count }
+    requires few { count ≤ most_branches }
+    ensures { RootOpening count from.entry result }
+{
+    let rest = read_entries(from, entry_count(count).unwrap())?;
+    let item = Item::Root {
+        count,
+        entries: from.up_to(rest),
+        branches: rest.words,
     };
-    if kind_of(*word) != ENTRY {
+    Ok((item, rest))
+}
+
+// Whether a word of this kind and this value may begin a branch at this depth.
+fn check_word(kind: Kind, value: usize, depth: usize, place: usize) -> Result<(), Refusal>
+    ensures { MatchResult result (λ _. ValueInRange (kind_number kind) value × (depth ≤ most_depth)) (WordFault (kind_number kind) value depth place) }
+{
+    if kind == Kind::Entry {
         Err(Refusal::KindNotAllowed(place))
-    } else if value_of(*word) > MOST_ENTRY {
+    } else if !kind.allows(value) {
         Err(Refusal::ValueOutOfRange(place))
+    } else if depth > MOST_DEPTH {
+        Err(Refusal::TooDeep(place))
     } else {
         Ok(())
     }
 }
 
-// Whether the words begin with so many entries.
-fn check_entries(words: &[u32], count: usize, place: usize) -> Result<(), Refusal>
-    requires few { count ≤ above_count most_branches }
-    requires near { place ≤ suc most_words }
-    ensures { MatchResult result (λ _. (es : List ℕ) × (rest : List ℕ) × Entered count es × (words.now ≡ entry_words es ++ rest)) (EntryFault count place words.now) }
+// The head that the words begin with, where a branch is due, and what stands behind it.
+pub(crate) fn open(from: Cursor, depth: usize) -> Result<(Item, Cursor), Refusal>
+    ensures { Opening depth from.entry result }
 {
-    for at in 0..count {
-        check_entry(&words[at..], place + at)?;
-    }
-    Ok(())
-}
-
-// The root of so many branches whose entries the words begin with, and the words behind them.
-fn open_root<'a>(
-    words: &'a [u32],
-    count: usize,
-    place: usize,
-) -> Result<(Item<'a>, &'a [u32]), Refusal>
-    requires some { 1 ≤ count }
-    requires few { count ≤ most_branches }
-    requires near { place ≤ suc most_words }
-    ensures { RootOpening count place words.now result }
-{
-    let size = entry_count(count);
-    check_entries(words, size, place)?;
-    let (entries, branches) = words.split_at(size);
-    let item = Item::Root {
-        count,
-        entries,
-        branches,
-    };
-    Ok((item, branches))
-}
-
-// The head that the words begin with, where a branch is due, and the words behind it.
-pub(crate) fn open<'a>(
-    words: &'a [u32],
-    depth: usize,
-    place: usize,
-) -> Result<(Item<'a>, &'a [u32]), Refusal>
-    requires { place ≤ most_words }
-    ensures { Opening depth place words.now result }
-{
-    let Some((word, rest)) = words.split_first() else {
-        return Err(Refusal::WordsEndEarly(place));
-    };
-    let kind = kind_of(*word);
-    let count = value_of(*word) as usize;
-    check_word(kind, count, depth, place)?;
-    let branches = rest;
+    let (kind, value, rest) = from.split_first()?;
+    let count = value as usize;
+    check_word(kind, count, depth, from.place)?;
+    let branches = rest.words;
     match kind {
-        LINE => Ok((Item::Line(count), rest)),
-        SUM => Ok((Item::Sum { count, branches }, rest)),
-        GREATER => Ok((Item::Greater { branches }, rest)),
-        _ => open_root(rest, count, place + 1),
+        Kind::Line => Ok((Item::Line(count), rest)),
+        Kind::Sum => Ok((Item::Sum { count, branches }, rest)),
+        Kind::Greater => Ok((Item::Greater { branches }, rest)),
+        Kind::Root => open_root(rest, count),
+        Kind::Entry => unreachable!(),
     }
 }
 
@@ -103,6 +93,6 @@ pub fn first_item<'a>(words: &'a [u32]) -> Result<Item<'a>, Refusal>
     ensures opening { FirstItem words.now result }
     ensures own { OwnFirst words.now result }
 {
-    let (item, _) = open(words, 1, 0)?;
+    let (item, _) = open(Cursor::start(words), 1)?;
     Ok(item)
 }

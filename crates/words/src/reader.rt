@@ -1,58 +1,37 @@
 // The reader: a branch by its list of branches, and a list by each branch.
-ghost use Rattle.std.specs.Prelude.{◌≡◌, ◌+◌, ◌-◌, ◌≤◌, length, take};
 ghost use Rattle.words.specs.Faults.{RefusedExactly};
 ghost use Rattle.words.specs.Grammar.{OneReading};
-ghost use Rattle.words.specs.Items.{BranchRead, FirstBranch, OwnBranch, ReadAnswer};
+ghost use Rattle.words.specs.Items.{FirstBranch, OwnBranch, ReadAnswer};
 ghost use Rattle.words.specs.Places.{LeftToRight};
-ghost use Rattle.words.specs.Steps.{BranchesRead};
-ghost use Rattle.words.specs.Words.{most_words};
+ghost use Rattle.words.specs.Steps.{BranchesRead, ReadFrom};
 
 use crate::MOST_WORDS;
-use crate::item::{Item, branches_due, check_table, covering};
+use crate::cursor::Cursor;
+use crate::item::Item;
 use crate::opening::open;
 use refusals::Refusal;
 
-// What of the words stands before the rest of them.
-fn before<'a>(words: &'a [u32], rest: &[u32]) -> &'a [u32]
-    requires { length rest.now ≤ length words.now }
-    ensures { result.now ≡ take (length words.now - length rest.now) words.now }
+// Reads a branch: its item, with no more words than it covers, and what is left behind it.
+#[cycle(read_branch_read_branches)]
+fn read_branch(from: Cursor, depth: usize) -> Result<(Item, Cursor), Refusal>
+    ensures { ReadFrom depth from.entry result }
 {
-    &words[..words.len() - rest.len()]
+    let (item, behind) = open(from, depth)?;
+    item.check_table(from.place)?;
+    let rest = read_branches(behind, item.branches_due(), depth + 1)?;
+    Ok((item.covering(behind.up_to(rest)), rest))
 }
 
-// Reads a branch: its item, with no more words than it covers, and the words left behind it.
+// Reads so many branches, one behind the other, and hands out what is left behind them.
 #[cycle(read_branch_read_branches)]
-fn read_branch<'a>(
-    words: &'a [u32],
-    depth: usize,
-    place: usize,
-) -> Result<(Item<'a>, &'a [u32]), Refusal>
-    requires { place + length words.now ≤ most_words }
-    ensures { BranchRead depth place words.now result }
-{
-    let (item, behind) = open(words, depth, place)?;
-    check_table(item, place)?;
-    let below = place + (words.len() - behind.len());
-    let rest = read_branches(behind, branches_due(item), depth + 1, below)?;
-    Ok((covering(item, before(behind, rest)), rest))
-}
-
-// Reads so many branches, one behind the other, and hands out the words left behind them.
-#[cycle(read_branch_read_branches)]
-fn read_branches<'a>(
-    words: &'a [u32],
-    count: usize,
-    depth: usize,
-    place: usize,
-) -> Result<&'a [u32], Refusal>
-    requires { place + length words.now ≤ most_words }
-    ensures { BranchesRead count depth place words.now result }
+fn read_branches(from: Cursor, count: usize, depth: usize) -> Result<Cursor, Refusal>
+    ensures { BranchesRead count depth from.entry result }
 {
     if count == 0 {
-        return Ok(words);
+        return Ok(from);
     }
-    let (_, rest) = read_branch(words, depth, place)?;
-    read_branches(rest, count - 1, depth, place + (words.len() - rest.len()))
+    let (_, rest) = read_branch(from, depth)?;
+    read_branches(rest, count - 1, depth)
 }
 
 // The branch that the words begin with: its item, with no more words than it covers, and the words left behind it.
@@ -63,7 +42,8 @@ pub fn first_branch<'a>(words: &'a [u32]) -> Result<(Item<'a>, &'a [u32]), Refus
     if words.len() > MOST_WORDS {
         return Err(Refusal::TooManyWords(MOST_WORDS));
     }
-    read_branch(words, 1, 0)
+    let (item, rest) = read_branch(Cursor::start(words), 1)?;
+    Ok((item, rest.words))
 }
 
 // The tree that the words are, by its outermost item, or the number and the place of what is wrong with them.
@@ -74,6 +54,7 @@ pub fn read<'a>(words: &'a [u32]) -> Result<Item<'a>, Refusal>
     ensures places { LeftToRight words.now }
 {
     let (item, rest) = first_branch(words)?;
+    // (`first_branch` promises its callers words alone, so their place is counted here.)
     let covered = words.len() - rest.len();
     if !rest.is_empty() {
         return Err(Refusal::WordsLeftOver(covered));

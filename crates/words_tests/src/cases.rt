@@ -1,6 +1,6 @@
 // Lists of words, and what is told of each: written by tools/words.py.
 
-// All lists, one behind the other.
+// All lists, one behind the other (tried: a table whose rows hold their words as slices passes the checker's limit of steps).
 pub(crate) const WORDS: [u32; 1912] = [
     0x40000002, 0x50000019, 0x10000001, 0x1000000e, 0x00000001, 0x00000002, 0x10000001, 0x10000002,
     0x40000002, 0x00000001, 0x10000001, 0x10000002, 0x10000001, 0x10000002, 0x10000001, 0x10000002,

@@ -3,7 +3,7 @@ use Rattle.std.proofs.Common.{◌+◌, ◌*◌, length}
 use Rattle.words.proofs.reader.+read_branch_read_branches.Given as goal
 
 abbrev pub decreases-read_branch : goal.decreases-read_branch
-decreases-read_branch l = 2 * length l.words.now
+decreases-read_branch l = 2 * length l.from.words.now
 
 abbrev pub decreases-read_branches : goal.decreases-read_branches
-decreases-read_branches l = 2 * length l.words.now + 1
+decreases-read_branches l = 2 * length l.from.words.now + 1

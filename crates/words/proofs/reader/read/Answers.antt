@@ -1,5 +1,5 @@
 -- What was read or found wrong, and the laws of every reading.
-use Rattle.std.proofs.Common.{◌≡◌, ◌-◌, ◌++◌, length, Ok, Err, sym, ap, ◌∙◌, subst, inr, append-nil, arith}
+use Rattle.std.proofs.Common.{◌≡◌, ◌-◌, ◌++◌, length, Ok, Err, sym, ap, ◌∙◌, subst, inr, append-nil, length-append, arith}
 use Rattle.refusals.specs.declared.Refusal.TheVariants.{WordsLeftOver}
 use Rattle.std.proofs.lemmas.Result.{err_from_is_err_and}
 use Rattle.std.proofs.lemmas.Bool.{eqb-true, eqb-false}
@@ -9,7 +9,6 @@ use Rattle.words.specs.Items.{ReadAnswer}
 use Rattle.words.proofs.Exactly.{exactly, first_refused}
 use Rattle.words.proofs.OneTree.{reads_once}
 use Rattle.words.proofs.Parts.{empty_from_length}
-use Rattle.words.proofs.Reading.{length_behind}
 use Rattle.words.proofs.Settled.{left_to_right}
 use Rattle.words.proofs.reader.read.Goals as goal
 
@@ -22,7 +21,7 @@ returns-in_err-item c =
 pub overflow_sub-covered : goal.overflow_sub-covered
 overflow_sub-covered c =
     let read = c.in_ok-item.ensures.answer.1 in
-    omega (arith, length_behind c.args.words.now read.1 c.in_ok-item.rest.now read.2)
+    omega (arith, simp length-append at (ap length read.2))
 
 pub returns-then-not-is_empty : goal.returns-then-not-is_empty
 returns-then-not-is_empty c =
@@ -31,7 +30,7 @@ returns-then-not-is_empty c =
     let ws = c.args.words.now in
     let rest = c.in_ok-item.rest.now in
     let some = eqb-false (length rest) 0 (sym c.is_empty.ensures ∙ c.if-not-is_empty.true) in
-    let at : length ws - length rest ≡ length bs = omega (arith, length_behind ws bs rest whole) in
+    let at : length ws - length rest ≡ length bs = omega (arith, simp length-append at (ap length whole)) in
     let over : Refused ws (WordsLeftOver (length ws - length rest)) =
     inr (inr (first.0, (t, bs, rest, whole, λ empty. some (ap length empty), branch, ap WordsLeftOver at))) in
     record { answer = over; exactly = exactly _ (Err _) over; once = reads_once; places = left_to_right c.args.words.now }
