@@ -7,7 +7,7 @@ use Rattle.modules.specs.declared.sheet.Sheet.{Sheet}
 use Rattle.refusals.specs.declared.Refusal.{Refusal}
 use Rattle.std.proofs.lemmas.List.{at_drop_more, take_rest}
 use Rattle.words.specs.Grammar.{Branch, Branches, Reads}
-use Rattle.words.specs.Heads.{Head, HeadInRange, HeadLawful, HeadOf, of_line, of_sum, of_greater, of_root, head_words}
+use Rattle.words.specs.Heads.{Head, HeadInRange, HeadLawful, HeadOf, Opens, of_line, of_sum, of_greater, of_root, head_words}
 use Rattle.words.specs.Items.{FirstItem, OwnFirst, Shows, values}
 use Rattle.words.specs.Words.{word, entry_words, entry_kind, value_room}
 use Rattle.words.specs.declared.item.Item.{Item}
@@ -81,11 +81,11 @@ no_head (of_root n es) e ws rest range small is = omega (arith, first is)
 -- what stands first: an entry, or a branch
 data At (w : ℕ) (ws : List ℕ) : Type 0 where
   an_entry : (e : ℕ) → e < value_room → w ≡ word entry_kind e → Left ws → At w ws
-  a_branch : (t : Tree) (depth : ℕ) (bs cs : List ℕ) (f : Forest) → w ∷ ws ≡ bs ++ cs → Branch t depth bs → Laid f cs → At w ws
+  a_branch : (t : Tree) (f : Forest) → Laid (more t f) (w ∷ ws) → At w ws
 
 at_by : (w : ℕ) (ws es behind : List ℕ) (f : Forest) → Small es → w ∷ ws ≡ entry_words es ++ behind → Laid f behind → At w ws
 at_by w ws [] behind none small e l = absurd (omega (arith, ap length e, ap length l))
-at_by w ws [] behind (more t f) small e l = a_branch t l.0 l.1 l.2 f (e ∙ l.3) l.4 l.5
+at_by w ws [] behind (more t f) small e l = a_branch t f (l.0, l.1, l.2, e ∙ l.3, l.4, l.5)
 at_by w ws (x ∷ es) behind f small e l =
     an_entry x (small 0 (omega arith)) (first e) (record { entries = es; small = λ i k. small (suc i) (omega arith); behind = behind; words = ap tail e; forest = f; laid = l })
 
@@ -93,33 +93,33 @@ at : (w : ℕ) (ws : List ℕ) → Left (w ∷ ws) → At w ws
 at w ws l = at_by w ws l.entries l.behind l.forest l.small l.words l.laid
 
 -- behind the word of a branch stand its own branches, and those behind it
-module _ (w : ℕ) (ws : List ℕ) (t : Tree) (depth : ℕ) (bs cs : List ℕ) (f : Forest) (e : w ∷ ws ≡ bs ++ cs) (b : Branch t depth bs) (l : Laid f cs) where
-  own : Headed t depth bs
-  own = headed t depth bs b
+module _ (w : ℕ) (ws : List ℕ) (t : Tree) (f : Forest) (l : Laid (more t f) (w ∷ ws)) where
+  own : Headed t l.0 l.1
+  own = headed t l.0 l.1 l.4
+
+  own_opens : Opens l.0 (w ∷ ws) own.head (own.rest ++ l.2)
+  own_opens = opens_more (w ∷ ws) l.2 own.opens l.3
 
   branch_left : Left ws
   branch_left = record {
     entries = entries_of own.head;
     small = head_small own.head own.opens.in_range;
-    behind = own.rest ++ cs;
-    words = ap tail (opens_more (w ∷ ws) cs own.opens e).words ∙ head_rest own.head (own.rest ++ cs);
+    behind = own.rest ++ l.2;
+    words = ap tail own_opens.words ∙ head_rest own.head (own.rest ++ l.2);
     forest = join own.forest f;
-    laid = branches_laid own.forest f (suc depth) own.rest cs own.branches l;
+    laid = branches_laid own.forest f (suc l.0) own.rest l.2 own.branches l.5;
   }
 
   branch_taken : forest_of ws ≡ join own.forest f
   unfolding own branch_left
   branch_taken = left_stands ws branch_left
 
-  branch_put : forest_of (w ∷ ws) ≡ more t f
-  branch_put = laid_stands (more t f) (w ∷ ws) (depth, bs, cs, e, b, l)
-
 entry_left : (w : ℕ) (ws : List ℕ) (e : ℕ) → e < value_room → w ≡ word entry_kind e → forest_of (w ∷ ws) ≡ forest_of ws
 entry_left w ws e small is = ap (λ x. forest_of (x ∷ ws)) is ∙ entry_stands e ws small
 
 left_behind : (w : ℕ) (ws : List ℕ) → At w ws → Left ws
 left_behind w ws (an_entry e small is left) = left
-left_behind w ws (a_branch t depth bs cs f e b l) = branch_left w ws t depth bs cs f e b l
+left_behind w ws (a_branch t f l) = branch_left w ws t f l
 
 left_drop : (i : ℕ) (ws : List ℕ) → Left ws → Left (drop i ws)
 left_drop zero ws l = l
@@ -129,9 +129,9 @@ left_drop (suc i) (w ∷ ws) l = left_drop i ws (left_behind w ws (at w ws l))
 -- a word takes nothing off the gross of those behind it
 gross_more : (w : ℕ) (ws : List ℕ) (s : Sheet) → At w ws → gross_all (forest_of ws) s ≤ gross_all (forest_of (w ∷ ws)) s
 gross_more w ws s (an_entry e small is left) = omega (arith, ap (λ f. gross_all f s) (entry_left w ws e small is))
-gross_more w ws s (a_branch t depth bs cs f e b l) =
-    let h = own w ws t depth bs cs f e b l in
-    omega (arith, ap (λ g. gross_all g s) (branch_taken w ws t depth bs cs f e b l), ap (λ g. gross_all g s) (branch_put w ws t depth bs cs f e b l), joined_gross h.forest f s, head_gross t h.head h.forest s h.of)
+gross_more w ws s (a_branch t f l) =
+    let its = own w ws t f l in
+    omega (arith, ap (λ g. gross_all g s) (branch_taken w ws t f l), ap (λ g. gross_all g s) (laid_stands (more t f) (w ∷ ws) l), joined_gross its.forest f s, head_gross t its.head its.forest s its.of)
 
 pub gross_drop : (i : ℕ) (ws : List ℕ) (s : Sheet) → Left ws → gross_all (forest_of (drop i ws)) s ≤ gross_all (forest_of ws) s
 gross_drop zero ws s l = le_refl _
@@ -143,7 +143,7 @@ gross_drop (suc i) (w ∷ ws) s l =
 -- no item begins at an entry
 passed : (w : ℕ) (ws : List ℕ) (e : Refusal) → At w ws → OwnFirst (w ∷ ws) (Err e) → forest_of (w ∷ ws) ≡ forest_of ws
 passed w ws refusal (an_entry e small is left) opens = entry_left w ws e small is
-passed w ws refusal (a_branch t depth bs cs f e b l) opens = absurd (opens t depth bs cs e b)
+passed w ws refusal (a_branch t f l) opens = absurd (opens t l.0 l.1 l.2 l.3 l.4)
 
 shown_is : (item : Item) (h : Head) (ws : List ℕ) → HeadInRange h → Shows item h ws → shown item ≡ h
 shown_is (Line n) h ws range shows = sym shows
@@ -155,9 +155,9 @@ shown_is (Root n entries branches) h ws range shows =
 
 takes : (w : ℕ) (ws : List ℕ) (item : Item) → At w ws → FirstItem (w ∷ ws) (Ok item) → Takes (shown item) (forest_of ws) (forest_of (w ∷ ws))
 takes w ws item (an_entry e small is left) (h, rest, opens, shows) = absurd (no_head h e ws rest opens.in_range small (ap (λ x. x ∷ ws) (sym is) ∙ opens.words))
-takes w ws item (a_branch t depth bs cs f e b l) (h, rest, opens, shows) =
-    let its = own w ws t depth bs cs f e b l in
-    let same : its.head ≡ shown item = sym (shown_is item h rest opens.in_range shows ∙ (opens_unique opens (opens_more (w ∷ ws) cs its.opens e)).0) in
+takes w ws item (a_branch t f l) (h, rest, opens, shows) =
+    let its = own w ws t f l in
+    let same : its.head ≡ shown item = sym (shown_is item h rest opens.in_range shows ∙ (opens_unique opens (own_opens w ws t f l)).0) in
     record {
       tree = t;
       own = its.forest;
@@ -165,9 +165,9 @@ takes w ws item (a_branch t depth bs cs f e b l) (h, rest, opens, shows) =
       of = subst (λ x. HeadOf t x its.forest) same its.of;
       in_range = subst HeadInRange same its.opens.in_range;
       lawful = subst HeadLawful same its.lawful;
-      tabled = branch_tabled t depth bs b;
-      taken = branch_taken w ws t depth bs cs f e b l;
-      put = branch_put w ws t depth bs cs f e b l;
+      tabled = branch_tabled t l.0 l.1 l.4;
+      taken = branch_taken w ws t f l;
+      put = laid_stands (more t f) (w ∷ ws) l;
     }
 
 -- the same of the word before a place, where the words from the place on stand for the branches f

@@ -38,7 +38,7 @@ impl<'a> Iterator for Items<'a> {
 
     ghost remaining = { λ items. at_most items.left };
 
-    // No branch begins at an entry.
+    // No item begins at an entry. Places, since no iterator of a slice hands out what is left of it from the back.
     fn next(&mut self) -> Option<Item<'a>> {
         for place in (0..self.left).rev() {
             if let Ok(item) = first_item(&self.words[place..]) {
