@@ -1,5 +1,5 @@
 -- What a tree's head adds to the gross, the roundings and the charges of its branches. Assumes nothing.
-use Rattle.std.proofs.Common.{◌≡◌, ℕ, ◌+◌, sym, ap, arith}
+use Rattle.std.proofs.Common.{◌≡◌, ℕ, ◌+◌, sym, refl, subst₂, arith}
 use Rattle.modules.specs.Charged.{charged, charged_all}
 use Rattle.modules.specs.Sheets.{line_units}
 use Rattle.modules.specs.Trees as trees
@@ -22,30 +22,16 @@ own_roundings (of_sum n) = 0
 own_roundings of_greater = 0
 own_roundings (of_root n above) = 1
 
-pub head_due : (t : Tree) (h : Head) (f : Forest) → HeadOf t h f → due h ≡ branch_count f
-head_due (line n) h f of = omega (arith, ap due of.0, ap branch_count of.1)
-head_due (trees.sum g) h f of = omega (arith, ap due of.0, ap branch_count of.1)
-head_due (greater t u) h f of = omega (arith, ap due of.0, ap branch_count of.1)
-head_due (root above g) h f of = omega (arith, ap due of.0, ap branch_count of.1)
-head_due (choice a b t u) h f of = absurd of
+-- a tree with this head and these branches
+pub record Adds (t : Tree) (h : Head) (f : Forest) : Type 0 where
+  pub count : due h ≡ branch_count f
+  pub gross_is : (s : Sheet) → gross t s ≡ own_gross h s + gross_all f s
+  pub roundings_is : (s : Sheet) → roundings t s ≡ own_roundings h + roundings_all f s
+  pub charged_is : (s : Sheet) → charged t s ≡ head_charge h (charged_all f s) s
 
-pub head_gross : (t : Tree) (h : Head) (f : Forest) (s : Sheet) → HeadOf t h f → gross t s ≡ own_gross h s + gross_all f s
-head_gross (line n) h f s of = omega (arith, ap (λ x. own_gross x s) of.0, ap (λ g. gross_all g s) of.1)
-head_gross (trees.sum g) h f s of = omega (arith, ap (λ x. own_gross x s) of.0, ap (λ g. gross_all g s) of.1)
-head_gross (greater t u) h f s of = omega (arith, ap (λ x. own_gross x s) of.0, ap (λ g. gross_all g s) of.1)
-head_gross (root above g) h f s of = omega (arith, ap (λ x. own_gross x s) of.0, ap (λ g. gross_all g s) of.1)
-head_gross (choice a b t u) h f s of = absurd of
-
-pub head_roundings : (t : Tree) (h : Head) (f : Forest) (s : Sheet) → HeadOf t h f → roundings t s ≡ own_roundings h + roundings_all f s
-head_roundings (line n) h f s of = omega (arith, ap own_roundings of.0, ap (λ g. roundings_all g s) of.1)
-head_roundings (trees.sum g) h f s of = omega (arith, ap own_roundings of.0, ap (λ g. roundings_all g s) of.1)
-head_roundings (greater t u) h f s of = omega (arith, ap own_roundings of.0, ap (λ g. roundings_all g s) of.1)
-head_roundings (root above g) h f s of = omega (arith, ap own_roundings of.0, ap (λ g. roundings_all g s) of.1)
-head_roundings (choice a b t u) h f s of = absurd of
-
-pub head_charged : (t : Tree) (h : Head) (f : Forest) (s : Sheet) → HeadOf t h f → charged t s ≡ head_charge h (charged_all f s) s
-head_charged (line n) h f s of = λ i. head_charge (sym of.0 i) (charged_all (sym of.1 i) s) s
-head_charged (trees.sum g) h f s of = λ i. head_charge (sym of.0 i) (charged_all (sym of.1 i) s) s
-head_charged (greater t u) h f s of = λ i. head_charge (sym of.0 i) (charged_all (sym of.1 i) s) s
-head_charged (root above g) h f s of = λ i. head_charge (sym of.0 i) (charged_all (sym of.1 i) s) s
-head_charged (choice a b t u) h f s of = absurd of
+pub adds : (t : Tree) (h : Head) (f : Forest) → HeadOf t h f → Adds t h f
+adds (line n) h f of = subst₂ (Adds (line n)) (sym of.0) (sym of.1) (record { count = refl; gross_is = λ s. omega arith; roundings_is = λ s. refl; charged_is = λ s. refl })
+adds (trees.sum g) h f of = subst₂ (Adds (trees.sum g)) (sym of.0) (sym of.1) (record { count = refl; gross_is = λ s. omega arith; roundings_is = λ s. omega arith; charged_is = λ s. refl })
+adds (greater t u) h f of = subst₂ (Adds (greater t u)) (sym of.0) (sym of.1) (record { count = refl; gross_is = λ s. omega arith; roundings_is = λ s. omega arith; charged_is = λ s. refl })
+adds (root above g) h f of = subst₂ (Adds (root above g)) (sym of.0) (sym of.1) (record { count = refl; gross_is = λ s. omega arith; roundings_is = λ s. omega arith; charged_is = λ s. refl })
+adds (choice a b t u) h f of = absurd of

@@ -18,7 +18,7 @@ use Rattle.written.specs.Known.{branch_tabled}
 use Rattle.written.specs.Reading.{forest_of, tree_of, Readable}
 use Rattle.written.specs.Standing.{Small, branch_stands, entry_stands, entries_stand, values_are}
 use Rattle.written.specs.Taking.{Takes, shown}
-use Rattle.written.proofs.Heads.{head_gross}
+use Rattle.written.proofs.Heads.{adds}
 
 -- the words are these branches one behind the other, each at a depth of its own
 abbrev pub Laid : Forest → List ℕ → Type 0
@@ -131,7 +131,7 @@ gross_more : (w : ℕ) (ws : List ℕ) (s : Sheet) → At w ws → gross_all (fo
 gross_more w ws s (an_entry e small is left) = omega (arith, ap (λ f. gross_all f s) (entry_left w ws e small is))
 gross_more w ws s (a_branch t f l) =
     let its = own w ws t f l in
-    omega (arith, ap (λ g. gross_all g s) (branch_taken w ws t f l), ap (λ g. gross_all g s) (laid_stands (more t f) (w ∷ ws) l), joined_gross its.forest f s, head_gross t its.head its.forest s its.of)
+    omega (arith, ap (λ g. gross_all g s) (branch_taken w ws t f l), ap (λ g. gross_all g s) (laid_stands (more t f) (w ∷ ws) l), joined_gross its.forest f s, (adds t its.head its.forest its.of).gross_is s)
 
 pub gross_drop : (i : ℕ) (ws : List ℕ) (s : Sheet) → Left ws → gross_all (forest_of (drop i ws)) s ≤ gross_all (forest_of ws) s
 gross_drop zero ws s l = le_refl _

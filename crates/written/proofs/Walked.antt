@@ -18,7 +18,7 @@ use Rattle.words.specs.declared.item.Item.TheVariants.{Line, Sum, Greater, Root}
 use Rattle.written.specs.Walking.{Steps, walked}
 use Rattle.written.specs.declared.items.Items.{Items}
 use Rattle.written.proofs.Charged.{charged_within}
-use Rattle.written.proofs.Heads.{own_gross, own_roundings, head_due, head_gross, head_roundings, head_charged}
+use Rattle.written.proofs.Heads.{own_gross, own_roundings, adds}
 use Rattle.written.proofs.Suffixes.{read_left, gross_drop}
 
 module _ {h : Head} {f g : Forest} (takes : ∥ Takes h f g ∥₁) where
@@ -28,15 +28,15 @@ module _ {h : Head} {f g : Forest} (takes : ∥ Takes h f g ∥₁) where
   module _ (s : Sheet) where
     pub gross_taken : gross_all g s ≡ own_gross h s + gross_all f s
     gross_taken = ∥∥₁_elim takes (ℕ_set _ _) (λ t.
-        omega (arith, ap (λ x. gross_all x s) t.put, ap (λ x. gross_all x s) t.taken, joined_gross t.own t.rest s, head_gross t.tree h t.own s t.of))
+        omega (arith, ap (λ x. gross_all x s) t.put, ap (λ x. gross_all x s) t.taken, joined_gross t.own t.rest s, (adds t.tree h t.own t.of).gross_is s))
 
     pub roundings_taken : roundings_all g s ≡ own_roundings h + roundings_all f s
     roundings_taken = ∥∥₁_elim takes (ℕ_set _ _) (λ t.
-        omega (arith, ap (λ x. roundings_all x s) t.put, ap (λ x. roundings_all x s) t.taken, joined_roundings t.own t.rest s, head_roundings t.tree h t.own s t.of))
+        omega (arith, ap (λ x. roundings_all x s) t.put, ap (λ x. roundings_all x s) t.taken, joined_roundings t.own t.rest s, (adds t.tree h t.own t.of).roundings_is s))
 
     -- the charges of its own branches stand in front
     own_charges : (t : Takes h f g) → length (charged_all t.own s) ≡ due h
-    own_charges t = charged_count t.own s ∙ sym (head_due t.tree h t.own t.of)
+    own_charges t = charged_count t.own s ∙ sym (adds t.tree h t.own t.of).count
 
     parted : (t : Takes h f g) → charged_all f s ≡ charged_all t.own s ++ charged_all t.rest s
     parted t = ap (λ x. charged_all x s) t.taken ∙ joined_charged t.own t.rest s
@@ -48,7 +48,7 @@ module _ {h : Head} {f g : Forest} (takes : ∥ Takes h f g ∥₁) where
     rests t = ap (drop (due h)) (parted t) ∙ drop_at (charged_all t.own s) (charged_all t.rest s) (due h) (own_charges t)
 
     charges : (t : Takes h f g) → head_charge h (take (due h) (charged_all f s)) s ≡ charged t.tree s
-    charges t = ap (λ l. head_charge h l s) (owns t) ∙ sym (head_charged t.tree h t.own s t.of)
+    charges t = ap (λ l. head_charge h l s) (owns t) ∙ sym ((adds t.tree h t.own t.of).charged_is s)
 
     pub charges_taken : charged_all g s ≡ head_charge h (take (due h) (charged_all f s)) s ∷ drop (due h) (charged_all f s)
     charges_taken = ∥∥₁_elim takes (is_set ℕ_set _ _) (λ t.
