@@ -12,11 +12,12 @@ use Rattle.words.specs.Items.{FirstItem, OwnFirst, Shows, values}
 use Rattle.words.specs.Words.{word, entry_words, entry_kind, value_room}
 use Rattle.words.specs.declared.item.Item.{Item}
 use Rattle.words.specs.declared.item.Item.TheVariants.{Line, Sum, Greater, Root}
+use Rattle.words.proofs.Parts.{entered_values}
 use Rattle.words.proofs.Heading.{Headed, headed, opens_more, opens_unique}
 use Rattle.written.specs.Forests.{join, joined_gross}
 use Rattle.written.specs.Known.{branch_tabled}
 use Rattle.written.specs.Reading.{forest_of, tree_of, Readable}
-use Rattle.written.specs.Standing.{Small, branch_stands, entry_stands, entries_stand, values_are}
+use Rattle.written.specs.Standing.{Small, branch_stands, entry_stands, entries_stand, entered_small}
 use Rattle.written.specs.Taking.{Takes, shown}
 use Rattle.written.proofs.Heads.{adds}
 
@@ -64,10 +65,10 @@ head_rest of_greater rest = refl
 head_rest (of_root n es) rest = refl
 
 head_small : (h : Head) → HeadInRange h → Small (entries_of h)
-head_small (of_line n) range i l = absurd (omega arith)
-head_small (of_sum n) range i l = absurd (omega arith)
-head_small of_greater range i l = absurd (omega arith)
-head_small (of_root n es) range i l = omega (arith, range.2.in_range i (omega (arith, range.2.count)))
+head_small (of_line n) range = λ i l. absurd (omega arith)
+head_small (of_sum n) range = λ i l. absurd (omega arith)
+head_small of_greater range = λ i l. absurd (omega arith)
+head_small (of_root n es) range = entered_small _ es range.2
 
 first : {xs ys : List ℕ} → xs ≡ ys → get_or xs 0 0 ≡ get_or ys 0 0
 first e = ap (λ l. get_or l 0 0) e
@@ -151,7 +152,7 @@ shown_is (Sum n branches) h ws range shows = sym shows.0
 shown_is (Greater branches) h ws range shows = sym shows.0
 shown_is (Root n entries branches) h ws range shows =
     let known = subst HeadInRange shows.1 range in
-    ap (of_root n) (ap values shows.2 ∙ values_are shows.0 (head_small (of_root n shows.0) known)) ∙ sym shows.1
+    ap (of_root n) (ap values shows.2 ∙ entered_values _ shows.0 known.2) ∙ sym shows.1
 
 takes : (w : ℕ) (ws : List ℕ) (item : Item) → At w ws → FirstItem (w ∷ ws) (Ok item) → Takes (shown item) (forest_of ws) (forest_of (w ∷ ws))
 takes w ws item (an_entry e small is left) (h, rest, opens, shows) = absurd (no_head h e ws rest opens.in_range small (ap (λ x. x ∷ ws) (sym is) ∙ opens.words))

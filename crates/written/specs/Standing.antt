@@ -1,13 +1,15 @@
 -- Words that are a branch stand for its tree, and leave those behind it as they are. Assumes nothing.
 use Rattle.std.specs.Prelude.{◌≡◌, ℕ, suc, ◌<◌, List, [], ◌∷◌, ◌++◌, length, slice_index, refl}
 use Rattle.std.proofs.Common.{ap, ◌∙◌, append_assoc, arith}
-use Rattle.correlation.proofs.Places.{place_onto, entry_above}
 use Rattle.correlation.specs.Tables.{LawfulAbove, above_count}
 use Rattle.modules.specs.Sheets.{IsLine}
 use Rattle.modules.specs.Trees as trees
 use Rattle.modules.specs.Trees.{Tree, Forest, Few, line, greater, root, choice, none, more, branch_count}
 use Rattle.std.proofs.lemmas.List.{take_at}
+use Rattle.words.proofs.Heading.{lawful_entered}
+use Rattle.words.proofs.Parts.{entered_values, length_entry_words}
 use Rattle.words.specs.Grammar.{Branch, Branches}
+use Rattle.words.specs.Heads.{Entered}
 use Rattle.words.specs.Items.{values}
 use Rattle.words.specs.Words.{word, entry_words, line_kind, sum_kind, greater_kind, root_kind, entry_kind, value_room}
 use Rattle.written.specs.Reading.{kind_of_word, value_of, values_of, with_word, forest_of}
@@ -47,30 +49,18 @@ entries_stand [] ws small = refl
 entries_stand (e ∷ es) ws small =
     entry_stands e (entry_words es ++ ws) (small 0 (omega arith)) ∙ entries_stand es ws (λ i l. small (suc i) (omega arith))
 
-pub values_are : (es : List ℕ) → Small es → values (entry_words es) ≡ es
-values_are [] small = refl
-values_are (e ∷ es) small =
-    let own : value_of (word entry_kind e) ≡ e = omega (arith, small 0 (omega arith)) in
-    λ i. own i ∷ values_are es (λ i l. small (suc i) (omega arith)) i
-
-entry_words_count : (es : List ℕ) → length (entry_words es) ≡ length es
-entry_words_count [] = refl
-entry_words_count (e ∷ es) = ap suc (entry_words_count es)
-
-pub entries_small : (n : ℕ) (above : List ℕ) → LawfulAbove n above → Small above
-entries_small n above law i l =
-    let (a, b, ab, bn, at) = place_onto n i (omega (arith, law.count)) in
-    omega (arith, law.lawful.range a b (omega arith, bn), entry_above n above a b ab, ap (λ k. slice_index above k) at)
+pub entered_small : (n : ℕ) (es : List ℕ) → Entered n es → Small es
+entered_small n es entered i l = omega (arith, entered.in_range i (omega (arith, l, entered.count)))
 
 root_stands : (above : List ℕ) (f g : Forest) (ws : List ℕ) → LawfulAbove (branch_count f) above → forest_of ws ≡ join f g → forest_of (word root_kind (branch_count f) ∷ entry_words above ++ ws) ≡ more (root above f) g
 unfolding with_word
 root_stands above f g ws law is =
     let n = branch_count f in
     let all = entry_words above ++ ws in
-    let small = entries_small n above law in
-    let many : length (entry_words above) ≡ above_count n = entry_words_count above ∙ law.count in
-    let table : values_of (above_count n) all ≡ above = ap values (take_at (entry_words above) ws (above_count n) many) ∙ values_are above small in
-    worded root_kind n all (join f g) (omega (arith, law.lawful.branches.1)) (entries_stand above ws small ∙ is)
+    let entered = lawful_entered n above law in
+    let many : length (entry_words above) ≡ above_count n = length_entry_words above ∙ law.count in
+    let table : values_of (above_count n) all ≡ above = ap values (take_at (entry_words above) ws (above_count n) many) ∙ entered_values _ above entered in
+    worded root_kind n all (join f g) (omega (arith, law.lawful.branches.1)) (entries_stand above ws (entered_small _ above entered) ∙ is)
     ∙ (λ i. more (root (table i) (first_joined f g i)) (behind_joined f g i))
 
 -- words with more behind them
