@@ -18,7 +18,7 @@ use Rattle.written.specs.Forests.{join, joined_gross}
 use Rattle.written.specs.Known.{branch_tabled}
 use Rattle.written.specs.Reading.{forest_of, tree_of, Readable}
 use Rattle.written.specs.Standing.{Small, branch_stands, entry_stands, entries_stand, entered_small}
-use Rattle.written.specs.Taking.{Takes, shown}
+use Rattle.written.specs.Taking.{TakesBranches, shown}
 use Rattle.written.proofs.Heads.{adds}
 
 -- the words are these branches one behind the other, each at a depth of its own
@@ -154,7 +154,7 @@ shown_is (Root n entries branches) h ws range shows =
     let known = subst HeadInRange shows.1 range in
     ap (of_root n) (ap values shows.2 ∙ entered_values _ shows.0 known.2) ∙ sym shows.1
 
-takes : (w : ℕ) (ws : List ℕ) (item : Item) → At w ws → FirstItem (w ∷ ws) (Ok item) → Takes (shown item) (forest_of ws) (forest_of (w ∷ ws))
+takes : (w : ℕ) (ws : List ℕ) (item : Item) → At w ws → FirstItem (w ∷ ws) (Ok item) → TakesBranches (shown item) (forest_of ws) (forest_of (w ∷ ws))
 takes w ws item (an_entry e small is left) (h, rest, opens, shows) = absurd (no_head h e ws rest opens.in_range small (ap (λ x. x ∷ ws) (sym is) ∙ opens.words))
 takes w ws item (a_branch t f l) (h, rest, opens, shows) =
     let its = own w ws t f l in
@@ -186,7 +186,7 @@ module _ (ws : List ℕ) (reads : Readable ws) (place : ℕ) (some : 0 < place) 
       let own_first = subst (λ l. OwnFirst l (Err e)) (take_rest ws (place - 1) ∙ split) own in
       ∥∥₁_elim here ∥∥₁_prop (λ a. ∥∥₁_map is (λ known. ap forest_of split ∙ passed _ _ e a own_first ∙ known))
 
-  pub takes_here : (item : Item) → FirstItem (take (length ws - (place - 1)) (drop (place - 1) ws)) (Ok item) → ∥ Takes (shown item) f (forest_of (drop (place - 1) ws)) ∥₁
+  pub takes_here : (item : Item) → FirstItem (take (length ws - (place - 1)) (drop (place - 1) ws)) (Ok item) → ∥ TakesBranches (shown item) f (forest_of (drop (place - 1) ws)) ∥₁
   takes_here item opening =
       let first_item = subst (λ l. FirstItem l (Ok item)) (take_rest ws (place - 1) ∙ split) opening in
-      ∥∥₁_elim here ∥∥₁_prop (λ a. ∥∥₁_map is (λ known. subst₂ (Takes (shown item)) known (sym (ap forest_of split)) (takes _ _ item a first_item)))
+      ∥∥₁_elim here ∥∥₁_prop (λ a. ∥∥₁_map is (λ known. subst₂ (TakesBranches (shown item)) known (sym (ap forest_of split)) (takes _ _ item a first_item)))

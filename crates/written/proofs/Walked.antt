@@ -12,7 +12,7 @@ use Rattle.words.specs.Heads.{Head, HeadInRange, HeadLawful, due}
 use Rattle.written.specs.Forests.{joined_gross, joined_roundings, joined_charged, charged_count}
 use Rattle.written.specs.Known.{reads_alone}
 use Rattle.written.specs.Reading.{forest_of, tree_of}
-use Rattle.written.specs.Taking.{Takes, head_charge, shown}
+use Rattle.written.specs.Taking.{TakesBranches, head_charge, shown}
 use Rattle.words.specs.declared.item.Item.{Item}
 use Rattle.words.specs.declared.item.Item.TheVariants.{Line, Sum, Greater, Root}
 use Rattle.written.specs.Walking.{Steps, walked}
@@ -21,7 +21,7 @@ use Rattle.written.proofs.Charged.{charged_within}
 use Rattle.written.proofs.Heads.{own_gross, own_roundings, adds}
 use Rattle.written.proofs.Suffixes.{read_left, gross_drop}
 
-module _ {h : Head} {f g : Forest} (takes : ∥ Takes h f g ∥₁) where
+module _ {h : Head} {f g : Forest} (takes : ∥ TakesBranches h f g ∥₁) where
   pub known : ∥ HeadInRange h × HeadLawful h ∥₁
   known = ∥∥₁_map takes (λ t. (t.in_range, t.lawful))
 
@@ -35,19 +35,19 @@ module _ {h : Head} {f g : Forest} (takes : ∥ Takes h f g ∥₁) where
         omega (arith, ap (λ x. roundings_all x s) t.put, ap (λ x. roundings_all x s) t.taken, joined_roundings t.own t.rest s, (adds t.tree h t.own t.of).roundings_is s))
 
     -- the charges of its own branches stand in front
-    own_charges : (t : Takes h f g) → length (charged_all t.own s) ≡ due h
+    own_charges : (t : TakesBranches h f g) → length (charged_all t.own s) ≡ due h
     own_charges t = charged_count t.own s ∙ sym (adds t.tree h t.own t.of).count
 
-    parted : (t : Takes h f g) → charged_all f s ≡ charged_all t.own s ++ charged_all t.rest s
+    parted : (t : TakesBranches h f g) → charged_all f s ≡ charged_all t.own s ++ charged_all t.rest s
     parted t = ap (λ x. charged_all x s) t.taken ∙ joined_charged t.own t.rest s
 
-    owns : (t : Takes h f g) → take (due h) (charged_all f s) ≡ charged_all t.own s
+    owns : (t : TakesBranches h f g) → take (due h) (charged_all f s) ≡ charged_all t.own s
     owns t = ap (take (due h)) (parted t) ∙ take_at (charged_all t.own s) (charged_all t.rest s) (due h) (own_charges t)
 
-    rests : (t : Takes h f g) → drop (due h) (charged_all f s) ≡ charged_all t.rest s
+    rests : (t : TakesBranches h f g) → drop (due h) (charged_all f s) ≡ charged_all t.rest s
     rests t = ap (drop (due h)) (parted t) ∙ drop_at (charged_all t.own s) (charged_all t.rest s) (due h) (own_charges t)
 
-    charges : (t : Takes h f g) → head_charge h (take (due h) (charged_all f s)) s ≡ charged t.tree s
+    charges : (t : TakesBranches h f g) → head_charge h (take (due h) (charged_all f s)) s ≡ charged t.tree s
     charges t = ap (λ l. head_charge h l s) (owns t) ∙ sym ((adds t.tree h t.own t.of).charged_is s)
 
     pub charges_taken : charged_all g s ≡ head_charge h (take (due h) (charged_all f s)) s ∷ drop (due h) (charged_all f s)

@@ -21,7 +21,7 @@ shown (Greater branches) = of_greater
 shown (Root n entries branches) = of_root n (values entries.now)
 
 -- a tree with this head takes its branches off the front, and stands in their place
-pub record Takes (h : Head) (before after : Forest) : Type 0 where
+pub record TakesBranches (h : Head) (before after : Forest) : Type 0 where
   pub tree : Tree
   pub own : Forest
   pub rest : Forest

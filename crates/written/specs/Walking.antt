@@ -3,7 +3,7 @@ use Rattle.std.specs.Prelude.{◌≡◌, ◌<◌, drop, Some, None, Option}
 use Rattle.modules.specs.Trees.{Forest}
 use Rattle.words.specs.declared.item.Item.{Item}
 use Rattle.written.specs.Reading.{forest_of}
-use Rattle.written.specs.Taking.{Takes, shown}
+use Rattle.written.specs.Taking.{TakesBranches, shown}
 use Rattle.written.specs.declared.items.Items.{Items}
 
 -- the branches that the words stand for whose items came
@@ -13,6 +13,6 @@ walked items = forest_of (drop items.left items.words.now)
 -- the next item takes its branches off those; or none is left
 abbrev pub Steps : Items → Option Item → Items → Type 0
 Steps before (Some item) after =
-    (after.words.now ≡ before.words.now) × (after.left < before.left) × ∥ Takes (shown item) (walked before) (walked after) ∥₁
+    (after.words.now ≡ before.words.now) × (after.left < before.left) × ∥ TakesBranches (shown item) (walked before) (walked after) ∥₁
 Steps before None after =
     (after.words.now ≡ before.words.now) × (after.left ≡ 0) × ∥ walked after ≡ walked before ∥₁
