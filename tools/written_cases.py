@@ -52,30 +52,42 @@ def total(n):
     return n * n * 98_765 + 4_321
 
 
+def case_lines(words, gross, roundings, charge):
+    """A row of the table."""
+    shown = [f"0x{w:08X}" for w in words]
+    lines = [", ".join(shown[i:i + 7]) for i in range(0, len(shown), 7)]
+    if len(shown) <= 5:
+        rows = [f"        words: &[{lines[0]}],"]
+    else:
+        rows = ["        words: &[", *(f"            {line}," for line in lines), "        ],"]
+    rows += [f"        gross: {gross},", f"        roundings: {roundings},", f"        charge: {charge},"]
+    return ["    Case {", *rows, "    },"]
+
+
 def main():
     rnd = random.Random(4)
     sheet = {n: total(n) for n in range(1, 30)}
-    words, cases = [], []
+    cases = []
     while len(cases) < CASES:
         tree = grown(rnd, 1)
-        own = written(tree)
-        if not 4 <= len(own) <= 48:
-            continue
-        gross, roundings, charge = evaluate(tree, sheet)
-        cases.append((len(words), len(words) + len(own), gross, roundings, charge))
-        words += own
+        words = written(tree)
+        if 4 <= len(words) <= 48:
+            cases.append((words, *evaluate(tree, sheet)))
     out = ["// Written trees with what they answer, by tools/written_cases.py."]
-    out.append("// From where to where among `WORDS` the words of a tree stand, and its gross, roundings and charge.")
-    out.append(f"pub(crate) const CASES: [(usize, usize, u32, u32, u32); {len(cases)}] = [")
-    out += [f"    ({a}, {b}, {g}, {n}, {c})," for a, b, g, n, c in cases]
-    out.append("];")
     out.append("")
-    out.append(f"pub(crate) const WORDS: [u32; {len(words)}] = [")
-    out += ["    " + ", ".join(f"0x{w:08X}" for w in words[i:i + 8]) + "," for i in range(0, len(words), 8)]
+    out.append("// The words of a tree, and its gross, roundings and charge.")
+    out.append("pub(crate) struct Case {")
+    out.append("    pub(crate) words: &'static [u32],")
+    out += [f"    pub(crate) {name}: u32," for name in ("gross", "roundings", "charge")]
+    out.append("}")
+    out.append("")
+    out.append(f"pub(crate) const CASES: [Case; {len(cases)}] = [")
+    for case in cases:
+        out += case_lines(*case)
     out.append("];")
     path = Path(__file__).resolve().parent.parent / "crates" / "written_tests" / "src" / "cases.rt"
     path.write_text("\n".join(out) + "\n")
-    print(f"{len(cases)} trees, {len(words)} words")
+    print(f"{len(cases)} trees, {sum(len(words) for words, *_ in cases)} words")
 
 
 if __name__ == "__main__":

@@ -1,4 +1,6 @@
 -- The lemmas of this crate, by file.
 pub mod Charged
-pub mod Steps
-pub mod Pending
+pub mod Heads
+pub mod Suffixes
+pub mod Answered
+pub mod Walked

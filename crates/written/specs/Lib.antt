@@ -2,6 +2,7 @@
 pub mod Reading
 pub mod Making
 pub mod Taking
+pub mod Walking
 pub mod Known
 pub mod Forests
-pub mod Sound
+pub mod Standing

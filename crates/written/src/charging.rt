@@ -1,97 +1,77 @@
-// The charge of a written tree: its words from the back, each with the charges of the branches behind it.
-ghost use Rattle.std.specs.Prelude.{◌≡◌, ◌+◌, ◌^◌, ◌<◌, ◌≤◌, max, length, drop, sum};
-ghost use Rattle.correlation.specs.Answers.{charge_of_branch};
-ghost use Rattle.correlation.specs.Roots.{root as root_of};
-ghost use Rattle.correlation.specs.Tables.{Branches, LawfulAbove, above_count, entry};
-ghost use Rattle.modules.specs.Answers.{most_gross};
-ghost use Rattle.modules.specs.Charged.{charged, charged_all};
-ghost use Rattle.modules.specs.Trees.{gross as gross_of};
-ghost use Rattle.words.specs.Items.{values};
-ghost use Rattle.written.specs.Reading.{forest_of, tree_of, Readable};
-ghost use Rattle.written.specs.Taking.{Takes};
+// What the items of a written tree charge, each of the charges of its branches.
+ghost use Rattle.std.specs.Prelude.{◌≡◌, ◌≤◌, length, take, drop, reverse};
+ghost use Rattle.arrayvec.specs.ArrayVec.{array_vec_len};
+ghost use Rattle.correlation.specs.Tables.{most_branches};
+ghost use Rattle.modules.specs.Answers.{gross_answer, most_gross};
+ghost use Rattle.modules.specs.Sheets.{IsLine, line_units};
+ghost use Rattle.words.specs.Heads.{HeadInRange, HeadLawful, due};
+ghost use Rattle.written.specs.Taking.{head_charge, shown};
 
-use crate::counting::{GREATER, LINE, ROOT, SUM, kind, units, value};
-use modules::Sheet;
-use words::{MOST_WORDS, table_of};
+use arrayvec::ArrayVec;
+use correlation::BRANCHES;
+use modules::{Line, RiskModule, Sheet};
+use refusals::Refusal;
+use words::{Item, MOST_WORDS, table_of};
 
-// How many entries a table has above the diagonal.
-fn entry_count(size: usize) -> usize
-    requires { Branches size }
-    ensures { result ≡ above_count size }
+// Charges that wait for the item that they are the branches of, the first branch last.
+pub(crate) type Waiting = ArrayVec<u32, MOST_WORDS>;
+
+// The rounded-up total of a line that there is.
+pub(crate) fn units(line: usize, sheet: &Sheet) -> Result<u32, Refusal>
+    requires { IsLine line }
+    ensures { result ≡ gross_answer (line_units sheet.now line) }
 {
-    size * (size - 1) / 2
-}
-
-// The root of charges under the table that the entries are the words of.
-fn rooted(size: usize, entries: &[u32], charges: &[u32]) -> u32
-    requires lawful { LawfulAbove size (values entries.now) }
-    requires each { length charges.now ≡ size }
-    requires small { root_of size (entry size (values entries.now)) (charge_of_branch charges.now) < 2 ^ 32 }
-    ensures { result ≡ root_of size (entry size (values entries.now)) (charge_of_branch charges.now) }
-{
-    let Ok(table) = table_of(size, entries) else {
+    let Ok(line) = Line::new(line) else {
         unreachable()
     };
-    let Ok(root) = table.root(charges) else {
-        unreachable()
-    };
-    root as u32
+    line.gross(sheet)
 }
 
-fn added(charges: &[u32]) -> u32
-    requires { sum charges.now < 2 ^ 32 }
-    ensures { result ≡ sum charges.now }
+// Takes so many charges off those that wait, the first branch first.
+fn taken(waiting: &mut Waiting, count: usize) -> ArrayVec<u32, BRANCHES>
+    requires few { count ≤ most_branches }
+    requires there { count ≤ array_vec_len waiting.old }
+    ensures taken { result.items ≡ take count (reverse waiting.old.items) }
+    ensures left { reverse waiting.new.items ≡ drop count (reverse waiting.old.items) }
 {
-    charges.iter().sum()
+    let mut own = ArrayVec::new();
+    for _ in 0..count {
+        if let Some(charge) = waiting.pop() {
+            own.push(charge);
+        }
+    }
+    own
 }
 
-fn larger(one: u32, other: u32) -> u32
-    ensures { result ≡ max one other }
+// What an item charges, which takes the charges of its branches off those that wait.
+pub(crate) fn charge_of(item: Item, waiting: &mut Waiting, sheet: &Sheet) -> u32
+    requires known { ∥ HeadInRange (shown item) × HeadLawful (shown item) ∥₁ }
+    requires there { due (shown item) ≤ array_vec_len waiting.old }
+    requires priced { head_charge (shown item) (take (due (shown item)) (reverse waiting.old.items)) sheet.now ≤ most_gross }
+    ensures charge { result ≡ head_charge (shown item.entry) (take (due (shown item.entry)) (reverse waiting.old.items)) sheet.now }
+    ensures left { reverse waiting.new.items ≡ drop (due (shown item.entry)) (reverse waiting.old.items) }
 {
-    one.max(other)
-}
-
-// What the word at a place charges, and how many of the charges behind it are its branches'. An entry charges nothing.
-fn charge_at(words: &[u32], place: usize, charges: &[u32], sheet: &Sheet) -> Option<(u32, usize)>
-    requires reads { Readable words.now }
-    requires within { place < length words.now }
-    requires priced { gross_of (tree_of words.now) sheet.now ≤ most_gross }
-    requires behind { charges.now ≡ charged_all (forest_of (drop (place + 1) words.now)) sheet.now }
-    ensures { Takes charges.now (charged_all (forest_of (drop place words.now)) sheet.now) result }
-{
-    let value = value(words[place]);
-    let count = value as usize;
-    match kind(words[place]) {
-        LINE => {
-            let Ok(charge) = units(value, sheet) else {
+    match item {
+        Item::Line(line) => {
+            let Ok(units) = units(line, sheet) else {
                 unreachable()
             };
-            Some((charge, 0))
+            units
         }
-        SUM => Some((added(&charges[0..count]), count)),
-        GREATER => Some((larger(charges[0], charges[1]), 2)),
-        ROOT => {
-            let entries = &words[place + 1..place + 1 + entry_count(count)];
-            Some((rooted(count, entries, &charges[0..count]), count))
+        Item::Sum { count, .. } => taken(waiting, count).as_slice().iter().sum(),
+        Item::Greater { .. } => {
+            let own = taken(waiting, 2);
+            own[0].max(own[1])
         }
-        _ => None,
-    }
-}
-
-// The charge of the whole tree.
-pub(crate) fn charge(words: &[u32], sheet: &Sheet) -> u32
-    requires reads { Readable words.now }
-    requires priced { gross_of (tree_of words.now) sheet.now ≤ most_gross }
-    ensures { result ≡ charged (tree_of words.now) sheet.now }
-{
-    // The charges of the branches so far stand from `first` on, in order.
-    let mut charges = [0u32; MOST_WORDS];
-    let mut first = MOST_WORDS;
-    for place in (0..words.len()).rev() {
-        if let Some((charge, taken)) = charge_at(words, place, &charges[first..], sheet) {
-            first = first + taken - 1;
-            charges[first] = charge;
+        Item::Root { count, entries, .. } => {
+            let own = taken(waiting, count);
+            let Ok(table) = table_of(count, entries) else {
+                unreachable()
+            };
+            let Ok(root) = table.root(own.as_slice()) else {
+                unreachable()
+            };
+            root as u32
         }
     }
-    charges[first]
 }

@@ -2,7 +2,7 @@
 #![tactic(auto)]
 
 mod charging;
-mod counting;
+mod items;
 mod written;
 
 pub use written::Written;

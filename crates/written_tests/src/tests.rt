@@ -1,5 +1,5 @@
 // What written trees answer, alone and as branches of other modules.
-use crate::cases::{CASES, WORDS};
+use crate::cases::CASES;
 use correlation::Table;
 use modules::{Branches, End, Line, RiskModule, Root, Sheet, price};
 use refusals::Refusal;
@@ -49,10 +49,12 @@ fn by_calculation(rt: HostRuntime) -> Result<(), Fail> {
         let squared = n as u64 * n as u64;
         sheet.set_total(n, squared * 98_765 + 4_321)?;
     }
-    for (from, to, gross, roundings, charge) in CASES.iter() {
-        let words = WORDS.get(*from..*to).ok_or("past the words")?;
-        let tree = written(rt.alloc(), words)?;
-        assert_eq!(rt; answers(&tree, &sheet)?, (*gross, *roundings, *charge));
+    for case in CASES.iter() {
+        let tree = written(rt.alloc(), case.words)?;
+        assert_eq!(rt;
+            answers(&tree, &sheet)?,
+            (case.gross, case.roundings, case.charge)
+        );
     }
     Ok(())
 }

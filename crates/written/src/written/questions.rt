@@ -1,14 +1,34 @@
 // What a written tree answers: what the five kinds answer for the tree that its words read as.
+ghost use Rattle.std.specs.Prelude.{◌≡◌, ◌≤◌};
+ghost use Rattle.modules.specs.Answers.{most_gross};
 ghost use Rattle.modules.specs.Charged.{charged};
+ghost use Rattle.modules.specs.Trees.{gross as gross_of};
 ghost use Rattle.written.specs.Reading.{tree_of};
 ghost use Rattle.written.specs.Known.{read_tabled};
 ghost use Rattle.modules.proofs.Plainly.{charged_bounded};
 ghost use Rattle.std.proofs.Common.{rules, arith};
 
 use super::Written;
-use crate::{charging, counting};
-use modules::{Charge, PlainModule, RiskModule, Sheet};
+use crate::charging::{Waiting, charge_of, units};
+use crate::items::Items;
+use modules::{Charge, PlainModule, RiskModule, Sheet, gross_within, roundings_within};
 use refusals::Refusal;
+use words::Item;
+
+impl Written {
+    // The charge of the tree: each item takes the charges of its branches, and leaves its own.
+    fn amount(&self, sheet: &Sheet) -> u32
+        requires { gross_of (tree_of self.now.words.items) sheet.now ≤ most_gross }
+        ensures { result ≡ charged (tree_of self.now.words.items) sheet.now }
+    {
+        let mut waiting = Waiting::new();
+        for item in Items::of(self) {
+            let charge = charge_of(item, &mut waiting, sheet);
+            waiting.push(charge);
+        }
+        waiting[0]
+    }
+}
 
 impl RiskModule for Written {
     ghost tree = { λ m. tree_of m.words.items };
@@ -20,18 +40,30 @@ impl RiskModule for Written {
     ghost bounded = { λ m s. charged_bounded (tree_of m.words.items) (read_tabled m.words.items m.reads) s };
 
     fn gross(&self, sheet: &Sheet) -> Result<u32, Refusal> {
-        counting::gross(self.words(), sheet)
+        let mut gross = 0u64;
+        for item in Items::of(self) {
+            if let Item::Line(line) = item {
+                gross += u64::from(units(line, sheet)?);
+            }
+        }
+        gross_within(gross)
     }
 
     fn roundings(&self, _sheet: &Sheet) -> Result<u32, Refusal> {
-        counting::roundings(self.words())
+        let mut roundings = 0u64;
+        for item in Items::of(self) {
+            if let Item::Line(_) | Item::Root { .. } = item {
+                roundings += 1;
+            }
+        }
+        roundings_within(roundings)
     }
 
     fn charge(&self, sheet: &Sheet) -> Result<Charge, Refusal> {
         let gross = self.gross(sheet)?;
         let roundings = self.roundings(sheet)?;
         Ok(Charge {
-            amount: charging::charge(self.words(), sheet),
+            amount: self.amount(sheet),
             gross,
             roundings,
         })

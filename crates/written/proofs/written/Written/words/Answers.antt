@@ -3,5 +3,5 @@ use Rattle.std.proofs.Common.{sym, subst}
 use Rattle.written.specs.Reading.{Readable}
 use Rattle.written.proofs.written.Written.words.Goals as goal
 
-pub returns : goal.returns
-returns c = record { value = c.as_slice.ensures.value; reads = subst Readable (sym c.as_slice.ensures.value) c.args.self.now.reads }
+pub returns-clause-reads : goal.returns-clause-reads
+returns-clause-reads c = subst Readable (sym c.as_slice.ensures.value) c.args.self.now.reads
