@@ -8,4 +8,6 @@ pub mod Lists
 pub mod Whole
 pub mod Back
 pub mod Hexes
+pub mod Gaps
+pub mod Blanks
 pub mod Shows

@@ -4,6 +4,7 @@
 mod hexadecimal;
 mod reading;
 mod showing;
+mod spaced;
 mod token;
 
 ghost use Rattle.notation.specs.Plain.{ReadsBack};

@@ -5,45 +5,25 @@ ghost use Rattle.notation.specs.Plain.{new_line, spaced};
 ghost use Rattle.notation.specs.Shown.{Headed, HeadWritten, Starts, StartAll, BranchWritten, ListWritten, Shown, ShownBack};
 ghost use Rattle.words.specs.Items.{values};
 
+use crate::spaced::push_spaced;
 use std::alloc::{AllocError, Global};
 use words::{Item, first_item, read};
 
 // A word's value is below this, and its kind stands above it.
 const VALUE_ROOM: u32 = 1 << 28;
 
-fn push_number(text: &mut String, n: usize) -> Result<(), AllocError>
-    ensures { OnOk result (string_bytes text.new ≡ string_bytes text.old ++ decimal n) }
-{
-    match write!(text, "{n}") {
-        Ok(()) => Ok(()),
-        Err(_) => Err(AllocError),
-    }
-}
-
 // A line feed, and so many spaces.
 fn push_new_line(text: &mut String, indent: usize) -> Result<(), AllocError>
     ensures { OnOk result (string_bytes text.new ≡ string_bytes text.old ++ new_line indent) }
 {
-    text.push_str("\n")?;
-    for _ in 0..indent {
-        text.push_str(" ")?;
-    }
-    Ok(())
+    write!(text, "\n{:indent$}", "")
 }
 
 // The values of the words of entries, with one space between two.
 fn push_entries(text: &mut String, entries: &[u32]) -> Result<(), AllocError>
     ensures { OnOk result (string_bytes text.new ≡ string_bytes text.old ++ spaced (values entries.now)) }
 {
-    let Some((first, others)) = entries.split_first() else {
-        return Ok(());
-    };
-    push_number(text, (*first % VALUE_ROOM) as usize)?;
-    for entry in others {
-        text.push_str(" ")?;
-        push_number(text, (*entry % VALUE_ROOM) as usize)?;
-    }
-    Ok(())
+    push_spaced(text, entries, |entry| entry % VALUE_ROOM)
 }
 
 // The head that the words begin with. How many branches are due behind it, and the words behind it.
@@ -56,8 +36,7 @@ fn push_head<'a>(text: &mut String, words: &'a [u32]) -> Result<(usize, &'a [u32
     };
     match item {
         Item::Line(line) => {
-            text.push_str("line ")?;
-            push_number(text, line)?;
+            write!(text, "line {line}")?;
             Ok((0, &words[1..]))
         }
         Item::Sum { count, branches } => {

@@ -1,6 +1,6 @@
 // Cuts a text into the tokens of the notation: names, numbers and marks.
-ghost use Rattle.std.specs.Prelude.{◌≡◌, false, IfOk, vec_items};
-ghost use Rattle.notation.specs.Pieces.{is_space_byte, is_mark_byte, is_in_run, run};
+ghost use Rattle.std.specs.Prelude.{◌≡◌, ◌||◌, false, IfOk, vec_items, position};
+ghost use Rattle.notation.specs.Pieces.{is_space_byte, is_mark_byte, run};
 ghost use Rattle.notation.specs.Tokens.{number_of, name_of, mark_of, token_of_piece, tokens};
 ghost use Rattle.std.specs.Option.{option_map};
 ghost use Rattle.std.specs.Str.{bytes_eq};
@@ -36,10 +36,11 @@ fn is_mark(b: u8) -> bool
     b == b'(' || b == b')' || b == b',' || b == b'[' || b == b']'
 }
 
-fn in_run(b: u8) -> bool
-    ensures { result ≡ is_in_run b }
+// Whether a byte is part of no run.
+fn ends_run(b: u8) -> bool
+    ensures { result ≡ (is_space_byte b || is_mark_byte b) }
 {
-    !(is_space(b) || is_mark(b))
+    is_space(b) || is_mark(b)
 }
 
 // The number that a piece stands for, clipped to the largest.
@@ -107,16 +108,18 @@ fn token_of(piece: &[u8]) -> Option<Token>
     }
 }
 
-// How long the run is that a text begins with.
+// Where the run ends that a text begins with, if something stands behind it.
+fn run_end(text: &[u8]) -> Option<usize>
+    ensures { result ≡ position (λ b. is_space_byte b || is_mark_byte b) text.now }
+{
+    text.iter().position(|b| ends_run(*b))
+}
+
+// How long that run is.
 fn run_len(text: &[u8]) -> usize
     ensures { result ≡ run text.now }
 {
-    for (i, b) in text.iter().enumerate() {
-        if !in_run(*b) {
-            return i;
-        }
-    }
-    text.len()
+    run_end(text).unwrap_or(text.len())
 }
 
 // The tokens of a text, where each of its pieces is one.

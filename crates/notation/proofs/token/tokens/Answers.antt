@@ -1,11 +1,12 @@
 -- Each turn passes over a space, or cuts one token.
 use Rattle.std.proofs.Common.{length, vec_items, ap, arith}
+use Rattle.std.proofs.lemmas.List.Sums.{prefix_len-le-length}
+use Rattle.notation.specs.Pieces.{is_in_run}
 use Rattle.notation.proofs.Cuts.{token_cut, no_token_cut}
-use Rattle.notation.proofs.Runs.{run_le}
 use Rattle.notation.proofs.token.tokens.Goals as goal
 
 pub split_at-requires : goal.split_at-requires
-split_at-requires c = omega (arith, run_le c.loop-first.left.now, ap length c.in-Some.ensures.cases.0)
+split_at-requires c = omega (arith, prefix_len-le-length is_in_run c.loop-first.left.now, ap length c.in-Some.ensures.cases.0)
 
 pub returns-in_default-token_of : goal.returns-in_default-token_of
 returns-in_default-token_of c =
