@@ -1,7 +1,9 @@
 -- The words that a tree is written in: a kind in the top four bits, a value below.
-use Rattle.std.specs.Prelude.{◌≡◌, ℕ, ◌+◌, ◌*◌, ◌≤◌, ◌⊎◌, List, [], ◌∷◌}
+use Rattle.std.specs.Prelude.{◌≡◌, ◌≢◌, ℕ, ◌+◌, ◌*◌, ◌/◌, ◌≤◌, ◌⊎◌, List, [], ◌∷◌, Some, None, Option}
 use Rattle.correlation.specs.Tables.{most_branches}
 use Rattle.modules.specs.Sheets.{IsLine}
+use Rattle.words.specs.declared.kind.Kind.{Kind}
+use Rattle.words.specs.declared.kind.Kind.TheVariants.{Line, Sum, Greater, Root, Entry}
 
 -- the kinds
 abbrev pub line_kind : ℕ
@@ -19,6 +21,14 @@ root_kind = 4
 abbrev pub entry_kind : ℕ
 entry_kind = 5
 
+-- the number of each kind
+abbrev pub kind_number : Kind → ℕ
+kind_number Line = line_kind
+kind_number Sum = sum_kind
+kind_number Greater = greater_kind
+kind_number Root = root_kind
+kind_number Entry = entry_kind
+
 -- a value is below 2 to the power 28
 abbrev pub value_room : ℕ
 value_room = 268435456
@@ -26,6 +36,11 @@ value_room = 268435456
 -- the word of a kind with a value
 abbrev pub word : ℕ → ℕ → ℕ
 word kind value = kind * value_room + value
+
+-- the kind of a word, where one has the number that stands above its value
+abbrev pub KindOf : ℕ → Option Kind → Type 0
+KindOf w (Some k) = kind_number k ≡ w / value_room
+KindOf w None = (k : Kind) → kind_number k ≢ w / value_room
 
 -- the words of entries, in order
 abbrev pub entry_words : List ℕ → List ℕ

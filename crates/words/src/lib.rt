@@ -2,12 +2,14 @@
 #![tactic(auto)]
 
 mod item;
+mod kind;
 mod opening;
 mod reader;
 mod table;
 mod word;
 
 pub use item::Item;
+pub use kind::{Kind, MOST_VALUE, value_of};
 pub use opening::first_item;
 pub use reader::{first_branch, read};
 pub use table::table_of;

@@ -8,7 +8,8 @@ ghost use Rattle.words.specs.Steps.{Opening, RootOpening};
 ghost use Rattle.words.specs.Words.{entry_words, entry_kind, most_entry, most_words};
 
 use crate::item::Item;
-use crate::word::{ENTRY, GREATER, LINE, SUM, check_word, kind_of, value_of};
+use crate::kind::value_of;
+use crate::word::{ENTRY, GREATER, LINE, SUM, check_word, kind_of};
 use refusals::Refusal;
 
 // The largest entry, in hundredths.

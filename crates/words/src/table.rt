@@ -3,7 +3,7 @@ ghost use Rattle.std.specs.Prelude.{◌≡◌, ◌≤◌, length, take};
 ghost use Rattle.correlation.specs.Tables.{most_branches, above_count};
 ghost use Rattle.words.specs.Items.{TableOf, values};
 
-use crate::word::value_of;
+use crate::kind::value_of;
 use correlation::{BRANCHES, Table};
 use refusals::Refusal;
 

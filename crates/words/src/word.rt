@@ -1,5 +1,5 @@
 // One word: its kind in the top four bits, its value below.
-ghost use Rattle.std.specs.Prelude.{◌≡◌, ◌/◌, ◌%◌, ◌≤◌, Decides, MatchResult};
+ghost use Rattle.std.specs.Prelude.{◌≡◌, ◌/◌, ◌≤◌, Decides, MatchResult};
 ghost use Rattle.words.specs.Faults.{WordFault};
 ghost use Rattle.words.specs.Words.{ValueInRange, value_room, most_depth};
 
@@ -24,12 +24,6 @@ pub(crate) fn kind_of(word: u32) -> u32
     ensures { result ≡ word / value_room }
 {
     word >> 28
-}
-
-pub(crate) fn value_of(word: u32) -> u32
-    ensures { result ≡ word % value_room }
-{
-    word & 0x0fff_ffff
 }
 
 // Whether the value is one that a branch of this kind may have.

@@ -1,6 +1,0 @@
--- The low 28 bits.
-use Rattle.std.proofs.lemmas.Nat.{and_mask}
-use Rattle.words.proofs.word.value_of.Goals as goal
-
-pub returns : goal.returns
-returns c = and_mask c.args.word 28

@@ -1,0 +1,47 @@
+// The kinds of words, and a word by its kind and its value.
+ghost use Rattle.std.specs.Prelude.{◌≡◌, ◌%◌, ◌<◌};
+ghost use Rattle.words.specs.Words.{KindOf, kind_number, value_room, word};
+
+// The largest value of a word, in its low 28 bits.
+pub const MOST_VALUE: u32 = 0x0fff_ffff;
+
+// What a word stands for: the head of a branch, or an entry of a root's table.
+#[derive(Clone, Copy, PartialEq, Eq, Debug)]
+pub enum Kind {
+    Line = 1,
+    Sum = 2,
+    Greater = 3,
+    Root = 4,
+    Entry = 5,
+}
+
+impl Kind {
+    // The kind in the top four bits of a word, where there is one of that number.
+    pub fn of(word: u32) -> Option<Kind>
+        ensures { KindOf word result }
+    {
+        match word >> 28 {
+            1 => Some(Kind::Line),
+            2 => Some(Kind::Sum),
+            3 => Some(Kind::Greater),
+            4 => Some(Kind::Root),
+            5 => Some(Kind::Entry),
+            _ => None,
+        }
+    }
+
+    // The word of this kind with this value, of which the low 28 bits count.
+    pub fn word(self, value: u32) -> u32
+        ensures low_bits { result ≡ word (kind_number self) (value % value_room) }
+        ensures whole { value < value_room → result ≡ word (kind_number self) value }
+    {
+        (self as u32) << 28 | value & MOST_VALUE
+    }
+}
+
+// The value of a word.
+pub fn value_of(word: u32) -> u32
+    ensures { result ≡ word % value_room }
+{
+    word & MOST_VALUE
+}
