@@ -1,7 +1,7 @@
 -- The lemmas of this crate, by file.
-pub mod Saturates
 pub mod Runs
 pub mod Cuts
+pub mod Stops
 pub mod Heads
 pub mod Prefixes
 pub mod Lists

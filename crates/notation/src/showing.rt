@@ -7,10 +7,7 @@ ghost use Rattle.words.specs.Items.{values};
 
 use crate::spaced::push_spaced;
 use std::alloc::{AllocError, Global};
-use words::{Item, first_item, read};
-
-// A word's value is below this, and its kind stands above it.
-const VALUE_ROOM: u32 = 1 << 28;
+use words::{Item, first_item, read, value_of};
 
 // A line feed, and so many spaces.
 fn push_new_line(text: &mut String, indent: usize) -> Result<(), AllocError>
@@ -23,7 +20,7 @@ fn push_new_line(text: &mut String, indent: usize) -> Result<(), AllocError>
 fn push_entries(text: &mut String, entries: &[u32]) -> Result<(), AllocError>
     ensures { OnOk result (string_bytes text.new ≡ string_bytes text.old ++ spaced (values entries.now)) }
 {
-    push_spaced(text, entries, |entry| entry % VALUE_ROOM)
+    push_spaced(text, entries, |entry| value_of(entry))
 }
 
 // The head that the words begin with. How many branches are due behind it, and the words behind it.

@@ -1,16 +1,15 @@
 // Cuts a text into the tokens of the notation: names, numbers and marks.
-ghost use Rattle.std.specs.Prelude.{◌≡◌, ◌||◌, false, IfOk, vec_items, position};
+ghost use Rattle.std.specs.Prelude.{◌≡◌, ◌||◌, false, Some, None, position};
 ghost use Rattle.notation.specs.Pieces.{is_space_byte, is_mark_byte, run};
+ghost use Rattle.notation.specs.Steps.{Answer};
 ghost use Rattle.notation.specs.Tokens.{number_of, name_of, mark_of, token_of_piece, tokens};
-ghost use Rattle.std.specs.Option.{option_map};
 ghost use Rattle.std.specs.Str.{bytes_eq};
 
-use std::alloc::{AllocError, Global};
+use crate::stop::Stop;
+use std::alloc::Global;
+use words::MOST_VALUE;
 
-// The largest value of a word.
-pub(crate) const LARGEST: u32 = 0x0fff_ffff;
-
-#[derive(Clone, Copy)]
+#[derive(Clone, Copy, PartialEq)]
 pub(crate) enum Token {
     Line,
     Sum,
@@ -47,17 +46,8 @@ fn ends_run(b: u8) -> bool
 fn number(piece: &[u8]) -> Option<Token>
     ensures { result ≡ number_of piece.now }
 {
-    if piece.is_empty() {
-        return None;
-    }
-    let mut n: u32 = 0;
-    for b in piece {
-        if !b.is_ascii_digit() {
-            return None;
-        }
-        n = (n * 10 + u32::from(*b - b'0')).min(LARGEST);
-    }
-    Some(Token::Number(n))
+    let n = digits::number(piece, u64::from(MOST_VALUE))?;
+    Some(Token::Number(n as u32))
 }
 
 fn is(piece: &[u8], name: &[u8]) -> bool
@@ -123,8 +113,8 @@ fn run_len(text: &[u8]) -> usize
 }
 
 // The tokens of a text, where each of its pieces is one.
-pub(crate) fn tokens(heap: Global, text: &[u8]) -> Result<Option<Vec<Token>>, AllocError>
-    ensures { IfOk result (λ v. option_map vec_items v ≡ tokens text.now) }
+pub(crate) fn tokens(heap: Global, text: &[u8]) -> Result<Vec<Token>, Stop>
+    ensures { Answer result (λ v. Some v.items ≡ tokens text.now) (None ≡ tokens text.now) }
 {
     let mut all = Vec::new(heap);
     let mut left = text;
@@ -134,11 +124,8 @@ pub(crate) fn tokens(heap: Global, text: &[u8]) -> Result<Option<Vec<Token>>, Al
             continue;
         }
         let (piece, rest) = left.split_at(run_len(left).max(1));
-        let Some(token) = token_of(piece) else {
-            return Ok(None);
-        };
-        all.push(token)?;
+        all.push(token_of(piece).ok_or(Stop::NoNotation)?)?;
         left = rest;
     }
-    Ok(Some(all))
+    Ok(all)
 }
