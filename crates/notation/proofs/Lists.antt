@@ -8,7 +8,7 @@ use Rattle.notation.specs.Steps.{NoHead, NoClose, Read, NoSketch, ReadAll, NoSke
 use Rattle.notation.specs.Tokens.{clipped}
 use Rattle.notation.specs.declared.token.Token.{Token}
 use Rattle.notation.specs.declared.token.Token.TheVariants.{Close, Comma}
-use Rattle.notation.proofs.Heads.{first_rank, rest_same}
+use Rattle.notation.proofs.Heads.{first_rank, first_same, rest_same}
 use Rattle.notation.proofs.Prefixes.{one_over, one_sketch, line_or_over}
 
 -- one branch more behind those that are there
@@ -92,9 +92,6 @@ module _ {levels : ℕ} {ts left : List Token} {before now : List ℕ} {n : ℕ}
     pub list_breaks : (t : Token) (rest : List Token) → behind_it ≡ t ∷ rest → (t ≡ Close → ⊥) → (t ≡ Comma → ⊥) → NoBranches levels ts
     list_breaks t rest e no-close no-comma = so.none_behind broken
       where
-        first_same : (t u : Token) (ts us : List Token) → t ∷ ts ≡ u ∷ us → t ≡ u
-        first_same t u ts us e = cc
-
         broken : NoBranches levels left
         broken u none q du dg e2 = no-close (first_same _ _ _ _ (sym e ∙ (one_sketch s u behind_it (behind none ++ q) (sym got.tokens ∙ e2)).1))
         broken u (more v g) q du dg e2 = no-comma (first_same _ _ _ _ (sym e ∙ (one_sketch s u behind_it (behind (more v g) ++ q) (sym got.tokens ∙ e2)).1))

@@ -26,13 +26,13 @@ pub(crate) enum Token {
 fn is_space(b: u8) -> bool
     ensures { result ≡ is_space_byte b }
 {
-    b == b' ' || b == b'\t' || b == b'\r' || b == b'\n'
+    matches!(b, b' ' | b'\t' | b'\r' | b'\n')
 }
 
 fn is_mark(b: u8) -> bool
     ensures { result ≡ is_mark_byte b }
 {
-    b == b'(' || b == b')' || b == b',' || b == b'[' || b == b']'
+    matches!(b, b'(' | b')' | b',' | b'[' | b']')
 }
 
 // Whether a byte is part of no run.
@@ -57,6 +57,7 @@ fn is(piece: &[u8], name: &[u8]) -> bool
 }
 
 // The name or the number that a piece is, where it is one.
+// By `if`: a match on names goes byte by byte, and its proof did not close.
 fn name_of(piece: &[u8]) -> Option<Token>
     ensures { result ≡ name_of piece.now }
 {
@@ -92,10 +93,7 @@ fn token_of(piece: &[u8]) -> Option<Token>
     ensures { result ≡ token_of_piece piece.now }
 {
     let first = piece.first()?;
-    match mark_of(*first) {
-        Some(mark) => Some(mark),
-        None => name_of(piece),
-    }
+    mark_of(*first).or_else(|| name_of(piece))
 }
 
 // Where the run ends that a text begins with, if something stands behind it.
