@@ -29,7 +29,7 @@ fn read(heap: Global, text: &[u8]) -> Result<Vec<u32>, Stop>
     let cut = tokens(heap, text)?;
     let mut reader = Reader::new(heap, cut.as_slice());
     reader.branch(MOST_DEEP)?;
-    reader.words()
+    reader.finish()
 }
 
 // The words that a text stands for, where it is a notation.

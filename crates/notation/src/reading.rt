@@ -163,7 +163,7 @@ impl<'a> Reader<'a> {
     }
 
     // The words, where no token is left.
-    pub(crate) fn words(self) -> Result<Vec<u32>, Stop>
+    pub(crate) fn finish(self) -> Result<Vec<u32>, Stop>
         ensures { Answer result (λ v. (self.entry.left.now ≡ []) × (v.items ≡ self.entry.words.items)) (self.entry.left.now ≢ []) }
     {
         if self.left.is_empty() {

@@ -20,6 +20,7 @@ fn push_new_line(text: &mut String, indent: usize) -> Result<(), AllocError>
 fn push_entries(text: &mut String, entries: &[u32]) -> Result<(), AllocError>
     ensures { OnOk result (string_bytes text.new ≡ string_bytes text.old ++ spaced (values entries.now)) }
 {
+    // In a closure: a function of another crate gets no proof when it is passed by its name.
     push_spaced(text, entries, |entry| value_of(entry))
 }
 

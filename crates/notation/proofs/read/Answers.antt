@@ -14,6 +14,6 @@ pub returns : goal.returns
 returns c =
     let cut = ap Some (c.new-reader.ensures.left ∙ c.as_slice.ensures.value) ∙ c.in_ok-cut.ensures in
     let got = c.in_ok-branch.ensures in
-    answer_from c.words.result
+    answer_from c.finish.result
     (λ v e. subst (Noted c.args.text.now) (sym e.1) (all_read c.args.text.now c.new-reader.result.left.now cut _ _ _ got c.new-reader.ensures.words e.0))
-    (λ some. some_left c.args.text.now c.new-reader.result.left.now cut _ _ _ got some) c.words.ensures
+    (λ some. some_left c.args.text.now c.new-reader.result.left.now cut _ _ _ got some) c.finish.ensures

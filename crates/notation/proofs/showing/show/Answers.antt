@@ -9,11 +9,8 @@ branch-writer-requires-clause-starts c =
     let (t, reads, own) = c.in-Ok.ensures.answer in
     (t, [], (1, c.args.words.now, sym (append-nil c.args.words.now), reads.1))
 
-pub returns-in_default : goal.returns-in_default
-returns-in_default c = record {
-  shown = λ t reads. c.in_default.ensures.exactly.not_both t _ reads c.in_default.ensures.answer;
-  back = tt;
-}
+pub returns-in_default-clause-shown : goal.returns-in_default-clause-shown
+returns-in_default-clause-shown c = λ t reads. c.in_default.ensures.exactly.not_both t _ reads c.in_default.ensures.answer
 
 pub returns : goal.returns
 returns c =
