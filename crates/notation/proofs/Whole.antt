@@ -1,26 +1,21 @@
 -- A text is a notation where its tokens are those of a sketch, and nothing behind it. Assumes nothing.
-use Rattle.std.proofs.Common.{◌≡◌, ℕ, List, [], ◌++◌, Some, None, Option, sym, ap, ◌∙◌, append-nil, arith}
+use Rattle.std.proofs.Common.{◌≡◌, ℕ, List, [], ◌++◌, Some, None, sym, ap, ◌∙◌, append-nil}
+use Rattle.std.proofs.lemmas.Option.{none-some, same_Some}
 use Rattle.notation.specs.Sketches.{Sketch, Notation, Noted, tokens_of, words_of, most_deep}
 use Rattle.notation.specs.Steps.{Read, NoSketch}
 use Rattle.notation.specs.Tokens.{tokens}
 use Rattle.notation.specs.declared.token.Token.{Token}
 use Rattle.notation.proofs.Prefixes.{one_sketch}
 
-same_some : (ts us : List Token) → Some ts ≡ Some us → ts ≡ us
-same_some ts us e = cc
-
-some_or_none : (ts : List Token) → ◌≡◌ {A = Option (List Token)} None (Some ts) → ⊥
-some_or_none ts e = let z : ◌≡◌ {A = ℕ} 0 1 = cc in omega arith
-
 pub one_notation : (text : List ℕ) (s u : Sketch) → Notation text s → Notation text u → u ≡ s
-one_notation text s u n m = (one_sketch u s [] [] (ap (λ x. x ++ []) (same_some _ _ (sym m.written ∙ n.written)))).0
+one_notation text s u n m = (one_sketch u s [] [] (ap (λ x. x ++ []) (same_Some _ _ (sym m.written ∙ n.written)))).0
 
 pub no_tokens : (text : List ℕ) → None ≡ tokens text → (s : Sketch) → Notation text s → ⊥
-no_tokens text none s n = some_or_none (tokens_of s) (none ∙ n.written)
+no_tokens text none s n = none-some (tokens_of s) (none ∙ n.written)
 
 module _ (text : List ℕ) (ts : List Token) (cut : Some ts ≡ tokens text) where
   the_tokens : (s : Sketch) → Notation text s → ts ≡ tokens_of s ++ []
-  the_tokens s n = same_some _ _ (cut ∙ n.written) ∙ sym (append-nil (tokens_of s))
+  the_tokens s n = same_Some _ _ (cut ∙ n.written) ∙ sym (append-nil (tokens_of s))
 
   pub no_branch : NoSketch most_deep ts → (s : Sketch) → Notation text s → ⊥
   no_branch lacks s n = lacks s [] n.shallow (the_tokens s n)
