@@ -1,5 +1,5 @@
 -- Lists of branches, read one behind the other. Assumes nothing.
-use Rattle.std.proofs.Common.{◌≡◌, ℕ, ◌+◌, ◌-◌, ◌<◌, ◌≤◌, max, List, [], ◌∷◌, ◌++◌, map, length, set, Some, None, Option, sym, refl, ap, ◌∙◌, subst, append_assoc, append-nil, arith, length-append}
+use Rattle.std.proofs.Common.{◌≡◌, ℕ, ◌+◌, ◌-◌, ◌≤◌, max, List, [], ◌∷◌, ◌++◌, map, length, set, Some, None, Option, sym, refl, ap, ◌∙◌, subst, append_assoc, append-nil, arith}
 use Rattle.std.proofs.lemmas.List.{set_at}
 use Rattle.words.specs.Words.{word, entry_words, kind_number}
 use Rattle.words.specs.declared.kind.Kind.{Kind}
@@ -165,9 +165,6 @@ module _ (levels : ℕ) (ts listed : List Token) (before opened : List ℕ) (b :
     whole =
         list.1.words ∙ ap (λ x. x ++ words_of_all list.0) head.3 ∙ append_assoc before (over_words o 0) (words_of_all list.0)
         ∙ ap (λ x. before ++ (x ++ words_of_all list.0)) (over_parts o 0)
-
-    pub own_place : length before < length after
-    own_place = omega (arith, simp length-append at (ap length whole))
 
     -- its count is written into its word
     pub sketch_read : 1 ≤ levels → (at : ℕ) → at ≡ length before → (w : ℕ) → w ≡ word (kind_number k) n → (s : Sketch) × Read levels ts before (set after at w) rest s

@@ -1,6 +1,6 @@
 -- A text is a notation where its tokens are those of a sketch, and nothing behind it. Assumes nothing.
-use Rattle.std.proofs.Common.{◌≡◌, ℕ, List, [], ◌++◌, Some, None, sym, ap, ◌∙◌, append-nil}
-use Rattle.std.proofs.lemmas.Option.{none-some, same_Some}
+use Rattle.std.proofs.Common.{◌≡◌, ℕ, List, [], ◌++◌, Some, sym, ap, ◌∙◌, append-nil}
+use Rattle.std.proofs.lemmas.Option.{same_Some}
 use Rattle.notation.specs.Sketches.{Sketch, Notation, Noted, tokens_of, words_of, most_deep}
 use Rattle.notation.specs.Steps.{Read, NoSketch}
 use Rattle.notation.specs.Tokens.{tokens}
@@ -9,9 +9,6 @@ use Rattle.notation.proofs.Prefixes.{one_sketch}
 
 pub one_notation : (text : List ℕ) (s u : Sketch) → Notation text s → Notation text u → u ≡ s
 one_notation text s u n m = (one_sketch u s [] [] (ap (λ x. x ++ []) (same_Some _ _ (sym m.written ∙ n.written)))).0
-
-pub no_tokens : (text : List ℕ) → None ≡ tokens text → (s : Sketch) → Notation text s → ⊥
-no_tokens text none s n = none-some (tokens_of s) (none ∙ n.written)
 
 module _ (text : List ℕ) (ts : List Token) (cut : Some ts ≡ tokens text) where
   the_tokens : (s : Sketch) → Notation text s → ts ≡ tokens_of s ++ []
