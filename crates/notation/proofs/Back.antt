@@ -1,19 +1,22 @@
 -- The text of a tree is cut into the tokens of its sketch, and the sketch stands for the tree's words. Assumes nothing.
-use Rattle.std.proofs.Common.{◌≡◌, ℕ, zero, suc, ◌+◌, ◌^◌, ◌<◌, ◌≤◌, true, false, not, ◌&&◌, List, [], ◌∷◌, ◌++◌, map, length, get_or, replicate, Some, None, codes, decimal, Option, sym, refl, ap, ◌∙◌, append_assoc, append-nil, arith, rules}
+use Rattle.std.proofs.Common.{◌≡◌, ℕ, zero, suc, ◌+◌, ◌^◌, ◌<◌, ◌≤◌, true, false, not, ◌&&◌, List, [], ◌∷◌, ◌++◌, map, length, get_or, replicate, Some, None, codes, decimal, Option, sym, refl, ap, ◌∙◌, append_assoc, append-nil, arith}
 use Rattle.correlation.proofs.Lawful.{above_in_range}
 use Rattle.modules.specs.Trees as trees
 use Rattle.modules.specs.Trees.{Tree, Forest, branch_count}
-use Rattle.std.proofs.lemmas.Fmt.{decimal_nonempty, digits_decimal, digits_value-decimal}
-use Rattle.std.proofs.lemmas.Str.Parse.{IsNumeralModel, numerals_by_fold, tells_all_ascii_digits}
-use Rattle.std.proofs.lemmas.Bool.{cond-true, cond-false, or_from, ne_eqb}
+use Rattle.digits.proofs.Decimals.{own, number_decimal}
+use Rattle.digits.specs.Numbers.{number_up_to}
+use Rattle.std.proofs.lemmas.Fmt.{decimal_nonempty, digits_decimal}
+use Rattle.std.proofs.lemmas.Str.Parse.{tells_all_ascii_digits}
+use Rattle.std.proofs.lemmas.Bool.{cond-false, or_from, ne_eqb}
 use Rattle.std.specs.List.{AllByRecursion}
+use Rattle.std.specs.Option.{option_map}
 use Rattle.std.specs.Str.{all_ascii_digits, bytes_eq}
 use Rattle.words.specs.Grammar.{Branch, Branches}
 use Rattle.words.specs.Words.{word, entry_words, entry_kind}
 use Rattle.notation.specs.Pieces.{is_in_run, goes_on, joins, pieces}
 use Rattle.notation.specs.Plain.{new_line, spaced, tree_text, branches_text, further_text}
 use Rattle.notation.specs.Sketches.{Sketch, Sketches, sum, greater, root, line, over, none, more, tokens_of, tokens_of_all, behind, words_of, words_of_all, count, depth, deepest, Notation, Noted}
-use Rattle.notation.specs.Tokens.{largest, clipped, written, number_of, name_of, mark_of, or_else, token_of_piece, before, tokens_in, tokens}
+use Rattle.notation.specs.Tokens.{largest, clipped, number_of, name_of, mark_of, or_else, token_of_piece, before, tokens_in, tokens}
 use Rattle.notation.specs.declared.token.Token.{Token}
 use Rattle.notation.specs.declared.token.Token.TheVariants.{Line, Sum, Greater, Root, Number, Open, Comma, EntriesOpen, EntriesClose}
 use Rattle.notation.proofs.Runs.{alone_first, joined_first, run_no_space}
@@ -61,21 +64,17 @@ digits_token c cs low high =
         cond-false _ _ _ (ne_eqb c 40 (λ e. omega arith)) ∙ cond-false _ _ _ (ne_eqb c 41 (λ e. omega arith)) ∙ cond-false _ _ _ (ne_eqb c 44 (λ e. omega arith))
         ∙ cond-false _ _ _ (ne_eqb c 91 (λ e. omega arith)) ∙ cond-false _ _ _ (ne_eqb c 93 (λ e. omega arith))
 
-own : IsNumeralModel (λ ds. all_ascii_digits ds ≡ true) (written 0)
-own = numerals_by_fold _ tells_all_ascii_digits written (search rules)
-
-digits_cut : (ds rest : List ℕ) (n : ℕ) → 0 < length ds → all_ascii_digits ds ≡ true → clipped (written 0 ds) ≡ n → goes_on rest ≡ false → tokens (ds ++ rest) ≡ before (Some (Number n)) (tokens rest)
+digits_cut : (ds rest : List ℕ) (n : ℕ) → 0 < length ds → all_ascii_digits ds ≡ true → number_up_to largest ds ≡ Some n → goes_on rest ≡ false → tokens (ds ++ rest) ≡ before (Some (Number n)) (tokens rest)
 digits_cut [] rest n some digits is e = absurd (omega arith)
 digits_cut (c ∷ cs) rest n some digits is e =
     let first = (tells_all_ascii_digits.parts c cs digits).0 in
     ap tokens_in (run_cut c cs rest (digits_run (c ∷ cs) digits) e)
-    ∙ ap (λ o. before o (tokens rest)) (digits_token c cs first.0 first.1 ∙ cond-true _ _ _ digits ∙ ap (λ k. Some (Number k)) is)
+    ∙ ap (λ o. before o (tokens rest)) (digits_token c cs first.0 first.1 ∙ ap (option_map Number) is)
 
 number_cut : (n : ℕ) (rest : List ℕ) → n ≤ largest → goes_on rest ≡ false → tokens (decimal n ++ rest) ≡ before (Some (Number n)) (tokens rest)
 number_cut n rest small e =
     let fits : n < 2 ^ 64 = omega arith in
-    let same : clipped n ≡ n = omega arith in
-    digits_cut (decimal n) rest n (decimal_nonempty n fits) (digits_decimal own n fits) (ap clipped (digits_value-decimal own n fits) ∙ same) e
+    digits_cut (decimal n) rest n (decimal_nonempty n fits) (digits_decimal own n fits) (number_decimal largest n small fits) e
 
 spaces_cut : (i : ℕ) (rest : List ℕ) → tokens (replicate i 32 ++ rest) ≡ tokens rest
 spaces_cut zero rest = refl

@@ -1,8 +1,9 @@
 -- Which tokens no head is written in. Assumes nothing.
-use Rattle.std.proofs.Common.{◌≡◌, ℕ, List, [], ◌∷◌, ◌++◌, map, Some, None, Option, sym, refl, ap, ◌∙◌, append_assoc, arith, Bor, MatchOption}
+use Rattle.std.proofs.Common.{◌≡◌, ℕ, List, [], ◌∷◌, ◌++◌, map, Some, sym, refl, ap, ◌∙◌, append_assoc, arith}
+use Rattle.words.specs.declared.kind.Kind.TheVariants as kinds
 use Rattle.words.specs.Words.{word, entry_words, root_kind, entry_kind}
-use Rattle.notation.specs.Sketches.{Over, root, over_tokens, over_words}
-use Rattle.notation.specs.Steps.{NoOpen, NoEntries, Entries}
+use Rattle.notation.specs.Sketches.{root}
+use Rattle.notation.specs.Steps.{NoEntries, Entries, Begins}
 use Rattle.notation.specs.Tokens.{clipped}
 use Rattle.notation.specs.declared.token.Token.{Token}
 use Rattle.notation.specs.declared.token.Token.TheVariants.{Line, Sum, Greater, Root, Number, Open, Close, Comma, EntriesOpen, EntriesClose}
@@ -54,20 +55,15 @@ entry_more ts left rest before now more es n is at so pushed =
     words_on [] = refl
     words_on (d ∷ ds) = ap (λ x. word entry_kind (clipped d) ∷ x) (words_on ds)
 
--- the entries end, and `(` stands behind them or not
-pub entries_end : (ts left rest : List Token) (before now es : List ℕ) (o : Option (Bor (List Token)))
-    → ts ≡ map Number es ++ left → now ≡ before ++ entry_words (map clipped es) → (NoEntries left → NoEntries ts) → left ≡ EntriesClose ∷ rest
-    → MatchOption o (NoOpen rest) (λ r. rest ≡ Open ∷ r.now)
-    → MatchOption o (NoEntries ts) (λ r. (ds : List ℕ) × Entries ts before now r.now ds)
-entries_end ts left rest before now es None is so none at h =
-    none (no_entries left (λ n r e. omega (arith, ap first_rank (sym at ∙ e))) (λ r e. h r (rest_same _ _ _ _ (sym at ∙ e))))
-entries_end ts left rest before now es (Some r) is so none at h =
-    (es, record { tokens = is ∙ ap (λ x. map Number es ++ x) (at ∙ ap (λ x. EntriesClose ∷ x) h); words = so })
+-- the entries end, but no `(` stands behind them
+pub no_open : (left rest : List Token) → left ≡ EntriesClose ∷ rest → ((r : List Token) → rest ≡ Open ∷ r → ⊥) → NoEntries left
+no_open left rest at lacks = no_entries left (λ n r e. omega (arith, ap first_rank (sym at ∙ e))) (λ r e. lacks r (rest_same _ _ _ _ (sym at ∙ e)))
 
 pub root_begun : (ts listed rest : List Token) (before pushed after es : List ℕ) → ts ≡ EntriesOpen ∷ listed → pushed ≡ before ++ word root_kind 0 ∷ []
-    → Entries listed pushed after rest es → (o : Over) × (Root ∷ ts ≡ over_tokens o ++ rest) × (after ≡ before ++ over_words o 0)
+    → Entries listed pushed after rest es → Begins (Some kinds.Root) (Root ∷ ts) before after rest
 root_begun ts listed rest before pushed after es is own got = (
   root es,
+  refl,
   ap (λ x. Root ∷ x) (is ∙ ap (λ x. EntriesOpen ∷ x) (got.tokens ∙ sym (append_assoc (map Number es) (EntriesClose ∷ Open ∷ []) rest))),
   got.words ∙ ap (λ x. x ++ entry_words (map clipped es)) own ∙ append_assoc before (word root_kind 0 ∷ []) (entry_words (map clipped es)),
 )

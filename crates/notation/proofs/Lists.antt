@@ -1,15 +1,14 @@
 -- Lists of branches, read one behind the other. Assumes nothing.
-use Rattle.std.proofs.Common.{◌≡◌, ℕ, ◌+◌, ◌-◌, ◌*◌, ◌<◌, ◌≤◌, max, List, [], ◌∷◌, ◌++◌, map, length, get_or, set, Some, None, Option, sym, refl, ap, ◌∙◌, subst, append_assoc, append-nil, arith, length-append, Bor}
-use Rattle.std.proofs.lemmas.List.{get_or_at, set_at}
-use Rattle.notation.specs.declared.reading.Begun.{Begun}
-use Rattle.notation.specs.declared.reading.Begun.TheVariants.{Whole, Listed}
-use Rattle.words.specs.Words.{word, entry_words, value_room, sum_kind, greater_kind, root_kind}
+use Rattle.std.proofs.Common.{◌≡◌, ℕ, ◌+◌, ◌-◌, ◌≤◌, max, List, [], ◌∷◌, ◌++◌, map, length, set, Some, None, Option, sym, refl, ap, ◌∙◌, subst, append_assoc, append-nil, arith}
+use Rattle.std.proofs.lemmas.List.{set_at}
+use Rattle.words.specs.Words.{word, entry_words, kind_number}
+use Rattle.words.specs.declared.kind.Kind.{Kind}
 use Rattle.notation.specs.Sketches.{Over, Sketch, Sketches, sum, greater, root, line, over, none, more, over_tokens, over_words, tokens_of, tokens_of_all, behind, words_of, words_of_all, count, depth, deepest}
-use Rattle.notation.specs.Steps.{NoHead, NoClose, Read, NoSketch, ReadAll, NoSketches, NoBranches, Begins, HeadRead, ListRead}
+use Rattle.notation.specs.Steps.{NoHead, NoClose, Read, NoSketch, ReadAll, NoSketches, NoBranches, Begins, over_kind}
 use Rattle.notation.specs.Tokens.{clipped}
 use Rattle.notation.specs.declared.token.Token.{Token}
 use Rattle.notation.specs.declared.token.Token.TheVariants.{Close, Comma}
-use Rattle.notation.proofs.Heads.{first_rank, rest_same}
+use Rattle.notation.proofs.Heads.{first_rank, first_same, rest_same}
 use Rattle.notation.proofs.Prefixes.{one_over, one_sketch, line_or_over}
 
 -- one branch more behind those that are there
@@ -53,7 +52,7 @@ deepest_put (more u f) s = omega (arith, deepest_put f s)
 pub record Sofar (levels : ℕ) (ts left : List Token) (before now : List ℕ) (n : ℕ) (f : Sketches) : Type 0 where
   pub tokens : ts ≡ fronts f ++ left
   pub words : now ≡ before ++ words_of_all f
-  pub counted : n ≡ count f
+  pub counted : n ≡ clipped (count f)
   pub shallow : deepest f ≤ levels
   pub none_behind : NoBranches levels left → NoBranches levels ts
 
@@ -64,7 +63,7 @@ module _ {levels : ℕ} {ts left : List Token} {before now : List ℕ} {n : ℕ}
         got.words ∙ ap (λ x. x ++ words_of s) so.words ∙ append_assoc before (words_of_all f) (words_of s)
         ∙ ap (λ x. before ++ x) (sym (words_put f s))
 
-    pub list_ends : (rest : List Token) → behind_it ≡ Close ∷ rest → ReadAll levels ts before after (n + 1) rest (put f s)
+    pub list_ends : (rest : List Token) → behind_it ≡ Close ∷ rest → ReadAll levels ts before after (clipped (n + 1)) rest (put f s)
     list_ends rest e =
         record {
           tokens = so.tokens ∙ ap (λ x. fronts f ++ x) (got.tokens ∙ ap (λ x. tokens_of s ++ x) e) ∙ fronts_close f s rest;
@@ -73,7 +72,7 @@ module _ {levels : ℕ} {ts left : List Token} {before now : List ℕ} {n : ℕ}
           shallow = omega (arith, deepest_put f s, so.shallow, got.shallow);
         }
 
-    pub list_goes_on : (rest : List Token) → behind_it ≡ Comma ∷ rest → Sofar levels ts rest before after (n + 1) (put f s)
+    pub list_goes_on : (rest : List Token) → behind_it ≡ Comma ∷ rest → Sofar levels ts rest before after (clipped (n + 1)) (put f s)
     list_goes_on rest e =
         record {
           tokens = so.tokens ∙ ap (λ x. fronts f ++ x) (got.tokens ∙ ap (λ x. tokens_of s ++ x) e) ∙ fronts_more f s rest;
@@ -93,9 +92,6 @@ module _ {levels : ℕ} {ts left : List Token} {before now : List ℕ} {n : ℕ}
     pub list_breaks : (t : Token) (rest : List Token) → behind_it ≡ t ∷ rest → (t ≡ Close → ⊥) → (t ≡ Comma → ⊥) → NoBranches levels ts
     list_breaks t rest e no-close no-comma = so.none_behind broken
       where
-        first_same : (t u : Token) (ts us : List Token) → t ∷ ts ≡ u ∷ us → t ≡ u
-        first_same t u ts us e = cc
-
         broken : NoBranches levels left
         broken u none q du dg e2 = no-close (first_same _ _ _ _ (sym e ∙ (one_sketch s u behind_it (behind none ++ q) (sym got.tokens ∙ e2)).1))
         broken u (more v g) q du dg e2 = no-comma (first_same _ _ _ _ (sym e ∙ (one_sketch s u behind_it (behind (more v g) ++ q) (sym got.tokens ∙ e2)).1))
@@ -133,12 +129,7 @@ module _ (levels : ℕ) (ts listed : List Token) (o : Over) (is : ts ≡ over_to
   no_list_no_sketch lacks (over p g) rest d e =
       lacks g rest (omega arith) (one_over o p listed (tokens_of_all g ++ rest) (sym is ∙ e ∙ append_assoc (over_tokens p) (tokens_of_all g) rest)).1
 
--- the kind of what stands over a list, and the words behind its own
-abbrev over_kind : Over → ℕ
-over_kind sum = sum_kind
-over_kind greater = greater_kind
-over_kind (root es) = root_kind
-
+-- the words behind the first of what stands over a list
 abbrev over_rest : Over → List ℕ
 over_rest sum = []
 over_rest greater = []
@@ -149,65 +140,50 @@ over_parts sum n = refl
 over_parts greater n = refl
 over_parts (root es) n = refl
 
--- a head with a list behind it, both read: what the two calls answered
-pub record Headed (levels : ℕ) (ts : List Token) (before after : List ℕ) (n : ℕ) (rest : List Token) : Type 0 where
-  pub o : Over
-  pub f : Sketches
-  pub listed : List Token
-  pub opened : List ℕ
-  pub is : ts ≡ over_tokens o ++ listed
-  pub begun : opened ≡ before ++ over_words o 0
-  pub got : ReadAll (levels - 1) listed opened after n rest f
-
-pub headed : (levels : ℕ) (ts : List Token) (before opened after : List ℕ)
-    (x : Option (Begun × Bor (List Token))) (b : Begun) (listed : Bor (List Token)) (y : Option (ℕ × Bor (List Token))) (n : ℕ) (rest : Bor (List Token))
-    → HeadRead ts before opened x → x ≡ Some (b, listed) → b ≡ Listed → ListRead (levels - 1) listed.now opened after y → y ≡ Some (n, rest)
-    → Headed levels ts before after n rest.now
-headed levels ts before opened after x b listed y n rest head_read at_x is-listed List-read at_y =
-    let h = subst (λ k. Begins k ts before opened listed.now) is-listed (subst (HeadRead ts before opened) at_x head_read) in
-    let l = subst (ListRead (levels - 1) listed.now opened after) at_y List-read in
-    record { o = h.0; f = l.0; listed = listed.now; opened = opened; is = h.1; begun = h.2; got = l.1 }
-
-pub no_list_read : (levels : ℕ) (ts : List Token) (before opened after : List ℕ)
-    (x : Option (Begun × Bor (List Token))) (b : Begun) (listed : Bor (List Token)) (y : Option (ℕ × Bor (List Token)))
-    → HeadRead ts before opened x → x ≡ Some (b, listed) → b ≡ Listed → ListRead (levels - 1) listed.now opened after y → y ≡ None → NoSketch levels ts
-no_list_read levels ts before opened after x b listed y head_read at_x is-listed List-read at_y =
-    let h = subst (λ k. Begins k ts before opened listed.now) is-listed (subst (HeadRead ts before opened) at_x head_read) in
-    no_list_no_sketch levels ts listed.now h.0 h.1 (subst (ListRead (levels - 1) listed.now opened after) at_y List-read)
-
-pub line_read : (levels : ℕ) (ts : List Token) (before opened : List ℕ) (x : Option (Begun × Bor (List Token))) (b : Begun) (rest : Bor (List Token))
-    → 1 ≤ levels → HeadRead ts before opened x → x ≡ Some (b, rest) → b ≡ Whole → (s : Sketch) × Read levels ts before opened rest.now s
-line_read levels ts before opened x b rest deep head_read at_x is_whole =
-    let h = subst (λ k. Begins k ts before opened rest.now) is_whole (subst (HeadRead ts before opened) at_x head_read) in
+pub line_read : (levels : ℕ) (ts : List Token) (before after : List ℕ) (b : Option Kind) (rest : List Token)
+    → 1 ≤ levels → b ≡ None → Begins b ts before after rest → (s : Sketch) × Read levels ts before after rest s
+line_read levels ts before after b rest deep is begun =
+    let h = subst (λ k. Begins k ts before after rest) is begun in
     (line h.0, record { tokens = h.1; words = h.2; shallow = deep })
 
-module _ {levels : ℕ} {ts : List Token} {before after : List ℕ} {n : ℕ} {rest : List Token} (hd : Headed levels ts before after n rest) (at : ℕ) (place : at ≡ length before) where
-  whole : after ≡ before ++ word (over_kind hd.o) 0 ∷ (over_rest hd.o ++ words_of_all hd.f)
-  whole =
-      hd.got.words ∙ ap (λ x. x ++ words_of_all hd.f) hd.begun ∙ append_assoc before (over_words hd.o 0) (words_of_all hd.f)
-      ∙ ap (λ x. before ++ (x ++ words_of_all hd.f)) (over_parts hd.o 0)
+-- a head with a list behind it
+module _ (levels : ℕ) (ts listed : List Token) (before opened : List ℕ) (b : Option Kind) (k : Kind) (is : b ≡ Some k) (begun : Begins b ts before opened listed) where
+  abbrev head : Begins (Some k) ts before opened listed
+  head = subst (λ x. Begins x ts before opened listed) is begun
 
-  own_word : (v : ℕ) → v ≡ get_or after at v → v ≡ over_kind hd.o * value_room
-  own_word v read = omega (arith, read ∙ ap (λ x. get_or x at v) whole ∙ get_or_at before _ _ v at (sym place))
+  pub no_list_read : NoSketches (levels - 1) listed → NoSketch levels ts
+  no_list_read = no_list_no_sketch levels ts listed head.0 head.2
 
-  pub own_place : at < length after
-  own_place = omega (arith, simp length-append at (ap length whole))
+  module _ (after : List ℕ) (n : ℕ) (rest : List Token) (list : (f : Sketches) × ReadAll (levels - 1) listed opened after n rest f) where
+    abbrev o : Over
+    o = head.0
 
-  pub sketch_read : 1 ≤ levels → (v : ℕ) → v ≡ get_or after at v → (w : ℕ) (counted : List ℕ) → w ≡ v + clipped n → counted ≡ set after at w → (s : Sketch) × Read levels ts before counted rest s
-  sketch_read deep v read w counted sums sets = (
-    over hd.o hd.f,
-    record {
-      tokens = hd.is ∙ ap (λ x. over_tokens hd.o ++ x) hd.got.tokens ∙ sym (append_assoc (over_tokens hd.o) (tokens_of_all hd.f) rest);
-      words = sets ∙ ap (λ x. set x at w) whole ∙ set_at before _ _ w at (sym place) ∙ ap (λ x. before ++ x) (ap (λ x. x ∷ (over_rest hd.o ++ words_of_all hd.f)) sum_is ∙ ap (λ x. x ++ words_of_all hd.f) (sym (over_parts hd.o (clipped (count hd.f)))));
-      shallow = omega (arith, hd.got.shallow);
-    },
-  )
-    where
-      sum_is : w ≡ word (over_kind hd.o) (clipped (count hd.f))
-      sum_is = omega (arith, sums, own_word v read, ap clipped hd.got.counted)
+    abbrev words_behind : List ℕ
+    words_behind = over_rest o ++ words_of_all list.0
 
-pub list_begins : (levels : ℕ) (ts : List Token) (words : List ℕ) → Sofar levels ts ts words words 0 none
-list_begins levels ts words = record { tokens = refl; words = sym (append-nil words); counted = refl; shallow = omega arith; none_behind = λ lacks. lacks }
+    whole : after ≡ before ++ word (over_kind o) 0 ∷ words_behind
+    whole =
+        list.1.words ∙ ap (λ x. x ++ words_of_all list.0) head.3 ∙ append_assoc before (over_words o 0) (words_of_all list.0)
+        ∙ ap (λ x. before ++ (x ++ words_of_all list.0)) (over_parts o 0)
 
-pub list_empty : (levels : ℕ) (ts rest : List Token) (words : List ℕ) → ts ≡ Close ∷ rest → ReadAll levels ts words words 0 rest none
-list_empty levels ts rest words e = record { tokens = e; words = sym (append-nil words); counted = refl; shallow = omega arith }
+    -- its count is written into its word
+    pub sketch_read : 1 ≤ levels → (at : ℕ) → at ≡ length before → (w : ℕ) → w ≡ word (kind_number k) n → (s : Sketch) × Read levels ts before (set after at w) rest s
+    sketch_read deep at place w is_word = (
+      over o list.0,
+      record {
+        tokens = head.2 ∙ ap (λ x. over_tokens o ++ x) list.1.tokens ∙ sym (append_assoc (over_tokens o) (tokens_of_all list.0) rest);
+        words = ap (λ x. set x at w) whole ∙ set_at before _ _ w at (sym place) ∙ ap (λ x. before ++ x) (ap (λ x. x ∷ words_behind) counted ∙ ap (λ x. x ++ words_of_all list.0) (sym (over_parts o (clipped (count list.0)))));
+        shallow = omega (arith, list.1.shallow);
+      },
+    )
+      where
+        counted : w ≡ word (over_kind o) (clipped (count list.0))
+        counted = is_word ∙ (λ i. word (head.1 i) (list.1.counted i))
+
+-- no branch is read yet
+pub list_begins : (levels : ℕ) (ts left : List Token) (before now : List ℕ) → left ≡ ts → now ≡ before → Sofar levels ts left before now 0 none
+list_begins levels ts left before now same kept =
+    record { tokens = sym same; words = kept ∙ sym (append-nil before); counted = omega arith; shallow = omega arith; none_behind = subst (NoBranches levels) same }
+
+pub list_empty : (levels : ℕ) (ts rest : List Token) (before after : List ℕ) → ts ≡ Close ∷ rest → after ≡ before → ReadAll levels ts before after 0 rest none
+list_empty levels ts rest before after e kept = record { tokens = e; words = kept ∙ sym (append-nil before); counted = omega arith; shallow = omega arith }

@@ -1,36 +1,18 @@
 -- A tree's text is its head's and then its branches', each behind a new line. Assumes nothing.
-use Rattle.std.proofs.Common.{◌≡◌, ℕ, suc, ◌+◌, ◌-◌, ◌%◌, ◌<◌, ◌≤◌, List, [], ◌∷◌, ◌++◌, length, get_or, take, Ok, Err, codes, decimal, sym, refl, ap, ◌∙◌, subst, append_assoc, arith, lit≤, length-append, Bor}
+use Rattle.std.proofs.Common.{◌≡◌, ℕ, suc, ◌+◌, ◌-◌, ◌<◌, ◌≤◌, List, ◌++◌, length, Ok, Err, codes, sym, refl, ap, ◌∙◌, subst, append_assoc, arith, lit≤, length-append, Bor}
 use Rattle.modules.specs.Trees as trees
 use Rattle.modules.specs.Trees.{Tree, Forest, line, greater, root, choice, none, more, branch_count}
 use Rattle.refusals.specs.declared.Refusal.{Refusal}
-use Rattle.std.proofs.lemmas.List.{take_more}
 use Rattle.words.proofs.Heading.{headed, opens_more, opens_unique}
 use Rattle.words.proofs.OneFault.{head_sound}
-use Rattle.words.proofs.Parts.{values_push, entered_values}
+use Rattle.words.proofs.Parts.{entered_values}
 use Rattle.words.specs.Grammar.{Branches}
 use Rattle.words.specs.Heads.{Head, of_line, of_sum, of_greater, of_root, due, HeadInRange, HeadOf, Opens}
 use Rattle.words.specs.Items.{FirstItem, Shows, values}
-use Rattle.words.specs.Words.{value_room}
 use Rattle.words.specs.declared.item.Item.{Item}
 use Rattle.words.specs.declared.item.Item.TheVariants.{Root}
 use Rattle.notation.specs.Plain.{new_line, spaced, tree_text, branches_text}
 use Rattle.notation.specs.Shown.{head_text, Headed, HeadWritten, Starts, StartAll, BranchWritten, ListWritten}
-
--- Entries.
-put : (y : ℕ) (ys : List ℕ) (x : ℕ) → spaced ((y ∷ ys) ++ x ∷ []) ≡ spaced (y ∷ ys) ++ 32 ∷ decimal x
-put y [] x = refl
-put y (z ∷ zs) x = ap (λ t. decimal y ++ 32 ∷ t) (put z zs x) ∙ sym (append_assoc (decimal y) (32 ∷ spaced (z ∷ zs)) (32 ∷ decimal x))
-
--- one entry more, behind a space
-pub entry_pushed : (y : ℕ) (ys : List ℕ) (i : ℕ) (start now space end : List ℕ) → i < length ys → now ≡ start ++ spaced (values (y ∷ take i ys)) → space ≡ now ++ 32 ∷ []
-    → end ≡ space ++ decimal (get_or ys i 0 % value_room) → end ≡ start ++ spaced (values (y ∷ take (i + 1) ys))
-entry_pushed y ys i start now space end l so spaces pushed =
-    let first = y % value_room in
-    let x = get_or ys i 0 in
-    let before = spaced (first ∷ values (take i ys)) in
-    pushed ∙ ap (λ t. t ++ decimal (x % value_room)) (spaces ∙ ap (λ t. t ++ 32 ∷ []) so) ∙ append_assoc (start ++ before) (32 ∷ []) (decimal (x % value_room))
-    ∙ append_assoc start before (32 ∷ decimal (x % value_room)) ∙ ap (λ t. start ++ t) (sym (put first (values (take i ys)) (x % value_room)))
-    ∙ ap (λ t. start ++ spaced (first ∷ t)) (sym (values_push (take i ys) x)) ∙ ap (λ t. start ++ spaced (values (y ∷ t))) (sym (take_more ys i 0 l))
 
 -- Heads.
 pub never_refused : (ws : List ℕ) (e : Refusal) → Headed ws → FirstItem ws (Err e) → ⊥

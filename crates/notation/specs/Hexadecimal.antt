@@ -1,5 +1,6 @@
 -- Words in hexadecimal: `0x` and eight digits each, with one space between two.
 use Rattle.std.specs.Prelude.{ℕ, zero, suc, ◌+◌, ◌/◌, ◌%◌, cond, List, [], ◌∷◌, ◌++◌, codes, nat_lt}
+use Rattle.notation.specs.Spaced.{spaced_by}
 
 -- 0 to 9, and then a to f
 abbrev pub digit_text : ℕ → ℕ
@@ -14,6 +15,4 @@ abbrev pub word_text : ℕ → List ℕ
 word_text w = codes "0x" ++ digits_text 8 w
 
 abbrev pub words_text : List ℕ → List ℕ
-words_text [] = []
-words_text (w ∷ []) = word_text w
-words_text (w ∷ v ∷ ws) = word_text w ++ 32 ∷ words_text (v ∷ ws)
+words_text = spaced_by word_text

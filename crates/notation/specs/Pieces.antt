@@ -1,5 +1,6 @@
 -- How a text is cut into pieces: each mark by itself, and each run of other bytes between marks and spaces.
-use Rattle.std.specs.Prelude.{ℕ, suc, Bool, false, cond, not, ◌&&◌, ◌||◌, List, [], ◌∷◌, ◌==◌}
+use Rattle.std.specs.Prelude.{ℕ, Bool, false, cond, not, ◌&&◌, ◌||◌, List, [], ◌∷◌, ◌==◌}
+use Rattle.std.specs.List.{prefix_len}
 
 -- the space, the tab, the carriage return and the line feed
 abbrev pub is_space_byte : ℕ → Bool
@@ -30,5 +31,4 @@ pieces (b ∷ bs) = cond (is_space_byte b) (pieces bs) (cond (is_in_run b && goe
 
 -- how long the run is that a text begins with
 abbrev pub run : List ℕ → ℕ
-run [] = 0
-run (b ∷ bs) = cond (is_in_run b) (suc (run bs)) 0
+run = prefix_len is_in_run

@@ -4,6 +4,7 @@ use Rattle.modules.specs.Trees as trees
 use Rattle.modules.specs.Trees.{Tree, Forest, line, greater, root, choice, none, more}
 use Rattle.std.specs.declared.alloc.Global.{Global}
 use Rattle.words.specs.Grammar.{Branch}
+use Rattle.notation.specs.Spaced.{spaced_by}
 
 -- a line feed, and so many spaces
 abbrev pub new_line : ℕ → List ℕ
@@ -11,9 +12,7 @@ new_line i = 10 ∷ replicate i 32
 
 -- entries, with one space between two
 abbrev pub spaced : List ℕ → List ℕ
-spaced [] = []
-spaced (e ∷ []) = decimal e
-spaced (e ∷ d ∷ es) = decimal e ++ 32 ∷ spaced (d ∷ es)
+spaced = spaced_by decimal
 
 abbrev mutual
   -- the bytes of a tree whose first line stands behind i spaces; there is no notation for a choice

@@ -1,6 +1,8 @@
 -- The tokens of the notation: names, numbers and marks.
-use Rattle.std.specs.Prelude.{ℕ, ◌+◌, ◌-◌, ◌*◌, min, cond, List, [], ◌∷◌, Some, None, codes, Option, ◌==◌}
-use Rattle.std.specs.Str.{all_ascii_digits, bytes_eq}
+use Rattle.std.specs.Prelude.{ℕ, ◌-◌, min, cond, List, [], ◌∷◌, Some, None, codes, Option, ◌==◌}
+use Rattle.std.specs.Str.{bytes_eq}
+use Rattle.std.specs.Option.{option_map}
+use Rattle.digits.specs.Numbers.{number_up_to}
 use Rattle.words.specs.Words.{value_room}
 use Rattle.notation.specs.Pieces.{pieces}
 use Rattle.notation.specs.declared.token.Token.{Token}
@@ -13,19 +15,9 @@ largest = value_room - 1
 abbrev pub clipped : ℕ → ℕ
 clipped n = min n largest
 
--- the number that decimal digits write behind those of n
-abbrev pub written : ℕ → List ℕ → ℕ
-written n [] = n
-written n (c ∷ cs) = written (n * 10 + (c - 48)) cs
-
--- the same as a token; none where a byte is no digit
-abbrev pub number_from : ℕ → List ℕ → Option Token
-number_from n cs = cond (all_ascii_digits cs) (Some (Number (clipped (written n cs)))) None
-
--- one or more digits are a number
+-- one or more digits are a number, clipped
 abbrev pub number_of : List ℕ → Option Token
-number_of [] = None
-number_of (c ∷ cs) = number_from 0 (c ∷ cs)
+number_of p = option_map Number (number_up_to largest p)
 
 -- the name or the number that a piece is, where it is one
 abbrev pub name_of : List ℕ → Option Token

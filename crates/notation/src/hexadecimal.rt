@@ -1,35 +1,22 @@
 // Words in hexadecimal.
-ghost use Rattle.std.specs.Prelude.{◌≡◌, ◌<◌, ◌++◌, IfOk, string_bytes, OnOk};
-ghost use Rattle.notation.specs.Hexadecimal.{digit_text, digits_text, word_text, words_text};
+ghost use Rattle.std.specs.Prelude.{◌≡◌, IfOk, Some, string_bytes};
+ghost use Rattle.notation.specs.Hexadecimal.{word_text, words_text};
 
+use crate::spaced::push_spaced;
 use std::alloc::{AllocError, Global};
+use std::fmt;
 
-fn digit(n: u8) -> u8
-    requires { n < 16 }
-    ensures value { result ≡ digit_text n }
-    ensures bound { result < 128 }
-{
-    if n < 10 { b'0' + n } else { b'a' + (n - 10) }
-}
+// A word that is shown as `0x` and eight digits.
+#[derive(Clone, Copy)]
+struct Hexadecimal(u32);
 
-// The last digits of a number, so many of them.
-fn push_digits(text: &mut String, n: u32, count: usize) -> Result<(), AllocError>
-    ensures { OnOk result (string_bytes text.new ≡ string_bytes text.old ++ digits_text count n) }
-{
-    if count == 0 {
-        return Ok(());
+impl fmt::Display for Hexadecimal {
+    ghost output = { λ h. Some (word_text h.0) };
+
+    fn fmt<W: fmt::Write>(&self, f: &mut fmt::Formatter<W>) -> fmt::Result {
+        let Hexadecimal(word) = *self;
+        write!(f, "0x{word:08x}")
     }
-    push_digits(text, n / 16, count - 1)?;
-    text.push(digit((n % 16) as u8) as char)?;
-    Ok(())
-}
-
-fn push_word(text: &mut String, word: u32) -> Result<(), AllocError>
-    ensures { OnOk result (string_bytes text.new ≡ string_bytes text.old ++ word_text word) }
-{
-    text.push_str("0x")?;
-    push_digits(text, word, 8)?;
-    Ok(())
 }
 
 // Words as `0x40000002 0x50000019`.
@@ -37,13 +24,6 @@ pub fn hexadecimal_words(heap: Global, words: &[u32]) -> Result<String, AllocErr
     ensures { IfOk result (λ t. string_bytes t ≡ words_text words.now) }
 {
     let mut text = String::new(heap);
-    let Some((first, others)) = words.split_first() else {
-        return Ok(text);
-    };
-    push_word(&mut text, *first)?;
-    for word in others {
-        text.push_str(" ")?;
-        push_word(&mut text, *word)?;
-    }
+    push_spaced(&mut text, words, Hexadecimal)?;
     Ok(text)
 }

@@ -1,206 +1,175 @@
 // Reads the tokens of a notation, and writes the words that they stand for.
-ghost use Rattle.std.specs.Prelude.{◌≡◌, ℕ, List, [], ◌∷◌, ◌++◌, map, IfOk, MatchOption, ◌≢◌};
+ghost use Rattle.std.specs.Prelude.{◌≡◌, ℕ, List, [], ◌∷◌, ◌++◌, Some, MatchBool, ◌≢◌};
+ghost use Rattle.words.specs.Words.{word, kind_number};
 ghost use Rattle.notation.specs.Tokens.{clipped};
-ghost use Rattle.notation.specs.Steps.{Begins, NoOpen, NoClose, Entries, NoEntries, HeadRead, BranchRead, ListRead};
+ghost use Rattle.notation.specs.Steps.{Answer, Begins, NoClose, EntriesRead, HeadRead, BranchRead, ListRead};
+ghost use Rattle.notation.specs.declared.token.Token.TheVariants.{Line, Root, Number, Open, Close};
 ghost use Rattle.notation.specs.declared.token.Token.{Token};
-ghost use Rattle.notation.specs.declared.token.Token.TheVariants.{Line, Root, Number, Open, Close, EntriesOpen, EntriesClose};
-ghost use Rattle.notation.specs.declared.reading.Begun.TheVariants.{Listed};
 
-use crate::token::{LARGEST, Token};
-use std::alloc::AllocError;
-
-// The word of a kind with the value 0.
-const LINE: u32 = 0x1000_0000;
-
-const SUM: u32 = 0x2000_0000;
-
-const GREATER: u32 = 0x3000_0000;
-
-const ROOT: u32 = 0x4000_0000;
-
-const ENTRY: u32 = 0x5000_0000;
-
-// Whether a branch ends with its head, or a list of branches follows.
-#[derive(Clone, Copy)]
-enum Begun {
-    Whole,
-    Listed,
-}
+use crate::stop::Stop;
+use crate::token::Token;
+use std::alloc::Global;
+use words::{Kind, MOST_VALUE};
 
 fn clipped(n: u32) -> u32
     ensures { result ≡ clipped n }
 {
-    n.min(LARGEST)
+    n.min(MOST_VALUE)
 }
 
-// What stands behind `(`.
-fn opened(tokens: &[Token]) -> Option<&[Token]>
-    ensures { MatchOption result (NoOpen tokens.now) (λ rest. tokens.now ≡ Open ∷ rest.now) }
-{
-    match tokens.split_first() {
-        Some((Token::Open, rest)) => Some(rest),
-        _ => None,
+// The tokens that are left, and the words of those that were read.
+#[derive(Drop)]
+pub(crate) struct Reader<'a> {
+    left: &'a [Token],
+    words: Vec<u32>,
+}
+
+impl<'a> Reader<'a> {
+    pub(crate) fn new(heap: Global, tokens: &'a [Token]) -> Reader<'a>
+        ensures left { result.left.now ≡ tokens.now }
+        ensures words { result.words.items ≡ [] }
+    {
+        Reader {
+            left: tokens,
+            words: Vec::new(heap),
+        }
     }
-}
 
-// What stands behind `)`.
-fn closed(tokens: &[Token]) -> Option<&[Token]>
-    ensures { MatchOption result (NoClose tokens.now) (λ rest. tokens.now ≡ Close ∷ rest.now) }
-{
-    match tokens.split_first() {
-        Some((Token::Close, rest)) => Some(rest),
-        _ => None,
+    // The next token, which is passed over.
+    fn next(&mut self) -> Result<Token, Stop>
+        ensures next { Answer result (λ t. self.old.left.now ≡ t ∷ self.new.left.now) (self.old.left.now ≡ []) }
+        ensures kept { self.new.words ≡ self.old.words }
+    {
+        let (first, rest) = self.left.split_first().ok_or(Stop::NoNotation)?;
+        self.left = rest;
+        Ok(*first)
     }
-}
 
-// A root's entries, up to `](`.
-fn entries<'a>(words: &mut Vec<u32>, tokens: &'a [Token]) -> Result<Option<&'a [Token]>, AllocError>
-    ensures { IfOk result (λ o. MatchOption o (NoEntries tokens.now) (λ rest. (es : List ℕ) × Entries tokens.now words.old.items words.new.items rest.now es)) }
-{
-    let mut left = tokens;
-    loop {
-        let Some((token, rest)) = left.split_first() else {
-            return Ok(None);
+    // Passes over this token, where it stands there.
+    fn expect(&mut self, token: Token) -> Result<(), Stop>
+        ensures passed { Answer result (λ _. self.old.left.now ≡ token ∷ self.new.left.now) ((rest : List Token) → self.old.left.now ≢ token ∷ rest) }
+        ensures kept { self.new.words ≡ self.old.words }
+    {
+        if self.next()? == token {
+            Ok(())
+        } else {
+            Err(Stop::NoNotation)
+        }
+    }
+
+    // Whether a list ends here: its `)` is then passed over.
+    fn closes(&mut self) -> bool
+        ensures close { MatchBool result (self.old.left.now ≡ Close ∷ self.new.left.now) (NoClose self.old.left.now × (self.new.left.now ≡ self.old.left.now)) }
+        ensures kept { self.new.words ≡ self.old.words }
+    {
+        let Some((Token::Close, rest)) = self.left.split_first() else {
+            return false;
         };
-        match token {
-            Token::Number(n) => words.push(ENTRY + clipped(*n))?,
-            Token::EntriesClose => return Ok(opened(rest)),
-            _ => return Ok(None),
-        }
-        left = rest;
+        self.left = rest;
+        true
     }
-}
 
-// Behind `line`: its number.
-fn line<'a>(
-    words: &mut Vec<u32>,
-    tokens: &'a [Token],
-) -> Result<Option<(Begun, &'a [Token])>, AllocError>
-    ensures { IfOk result (λ o. MatchOption o ((n : ℕ) (rest : List Token) → tokens.now ≢ Number n ∷ rest) (λ p. Begins p.0 (Line ∷ tokens.now) words.old.items words.new.items p.1.now)) }
-{
-    match tokens.split_first() {
-        Some((Token::Number(n), rest)) => {
-            words.push(LINE + clipped(*n))?;
-            Ok(Some((Begun::Whole, rest)))
-        }
-        _ => Ok(None),
-    }
-}
-
-// Behind the name of what stands over a list: the word, and `(`.
-fn listed<'a>(
-    words: &mut Vec<u32>,
-    word: u32,
-    tokens: &'a [Token],
-) -> Result<Option<(Begun, &'a [Token])>, AllocError>
-    ensures { IfOk result (λ o. MatchOption o (NoOpen tokens.now) (λ p. (p.0 ≡ Listed) × (tokens.now ≡ Open ∷ p.1.now) × (words.new.items ≡ words.old.items ++ word ∷ []))) }
-{
-    match opened(tokens) {
-        Some(rest) => {
-            words.push(word)?;
-            Ok(Some((Begun::Listed, rest)))
-        }
-        None => Ok(None),
-    }
-}
-
-// Behind `root`: its word, its entries in brackets, and `(`.
-fn root<'a>(
-    words: &mut Vec<u32>,
-    tokens: &'a [Token],
-) -> Result<Option<(Begun, &'a [Token])>, AllocError>
-    ensures { IfOk result (HeadRead (Root ∷ tokens.now) words.old.items words.new.items) }
-{
-    let Some((Token::EntriesOpen, behind)) = tokens.split_first() else {
-        return Ok(None);
-    };
-    words.push(ROOT)?;
-    match entries(words, behind)? {
-        Some(rest) => Ok(Some((Begun::Listed, rest))),
-        None => Ok(None),
-    }
-}
-
-// The head that the tokens begin with. Its count is still to come.
-fn head<'a>(
-    words: &mut Vec<u32>,
-    tokens: &'a [Token],
-) -> Result<Option<(Begun, &'a [Token])>, AllocError>
-    ensures { IfOk result (HeadRead tokens.now words.old.items words.new.items) }
-{
-    let Some((first, rest)) = tokens.split_first() else {
-        return Ok(None);
-    };
-    match first {
-        Token::Line => line(words, rest),
-        Token::Sum => listed(words, SUM, rest),
-        Token::Greater => listed(words, GREATER, rest),
-        Token::Root => root(words, rest),
-        _ => Ok(None),
-    }
-}
-
-// A branch of so many levels at most.
-#[cycle(branch_branches)]
-pub(crate) fn branch<'a>(
-    words: &mut Vec<u32>,
-    tokens: &'a [Token],
-    levels: usize,
-) -> Result<Option<&'a [Token]>, AllocError>
-    ensures { IfOk result (BranchRead levels tokens.now words.old.items words.new.items) }
-{
-    if levels == 0 {
-        return Ok(None);
-    }
-    let at = words.len();
-    let Some((begun, behind)) = head(words, tokens)? else {
-        return Ok(None);
-    };
-    match begun {
-        Begun::Whole => Ok(Some(behind)),
-        Begun::Listed => {
-            let Some((count, rest)) = branches(words, behind, levels - 1)? else {
-                return Ok(None);
-            };
-            let word = words[at];
-            words[at] = word + clipped_count(count);
-            Ok(Some(rest))
+    // A root's entries, up to `](`.
+    fn entries(&mut self) -> Result<(), Stop>
+        ensures { EntriesRead self.old self.new result }
+    {
+        loop {
+            match self.next()? {
+                Token::Number(n) => self.words.push(Kind::Entry.word(clipped(n)))?,
+                Token::EntriesClose => return self.expect(Token::Open),
+                _ => return Err(Stop::NoNotation),
+            }
         }
     }
-}
 
-fn clipped_count(n: usize) -> u32
-    ensures { result ≡ clipped n }
-{
-    n.min(LARGEST as usize) as u32
-}
-
-// The branches up to `)`, and how many they are.
-#[cycle(branch_branches)]
-fn branches<'a>(
-    words: &mut Vec<u32>,
-    tokens: &'a [Token],
-    levels: usize,
-) -> Result<Option<(usize, &'a [Token])>, AllocError>
-    ensures { IfOk result (ListRead levels tokens.now words.old.items words.new.items) }
-{
-    if let Some(rest) = closed(tokens) {
-        return Ok(Some((0, rest)));
-    }
-    let mut left = tokens;
-    let mut count = 0;
-    loop {
-        let Some(behind) = branch(words, left, levels)? else {
-            return Ok(None);
+    // Behind `line`: its number.
+    fn line(&mut self) -> Result<Option<Kind>, Stop>
+        ensures { Answer result (λ b. Begins b (Line ∷ self.old.left.now) self.old.words.items self.new.words.items self.new.left.now) ((n : ℕ) (rest : List Token) → self.old.left.now ≢ Number n ∷ rest) }
+    {
+        let Token::Number(n) = self.next()? else {
+            return Err(Stop::NoNotation);
         };
-        count += 1;
-        let Some((token, rest)) = behind.split_first() else {
-            return Ok(None);
+        self.words.push(Kind::Line.word(clipped(n)))?;
+        Ok(None)
+    }
+
+    // Behind the name of what stands over a list: its word, and `(`.
+    fn listed(&mut self, kind: Kind) -> Result<Option<Kind>, Stop>
+        ensures { Answer result (λ b. (b ≡ Some kind) × (self.old.left.now ≡ Open ∷ self.new.left.now) × (self.new.words.items ≡ self.old.words.items ++ word (kind_number kind) 0 ∷ [])) ((rest : List Token) → self.old.left.now ≢ Open ∷ rest) }
+    {
+        self.expect(Token::Open)?;
+        self.words.push(kind.word(0))?;
+        Ok(Some(kind))
+    }
+
+    // Behind `root`: its word, its entries in brackets, and `(`.
+    fn root(&mut self) -> Result<Option<Kind>, Stop>
+        ensures { HeadRead (Root ∷ self.old.left.now) self.old self.new result }
+    {
+        self.expect(Token::EntriesOpen)?;
+        self.words.push(Kind::Root.word(0))?;
+        self.entries()?;
+        Ok(Some(Kind::Root))
+    }
+
+    // A head: the kind of what stands over a list that follows, with its count still to come, or none for a line.
+    fn head(&mut self) -> Result<Option<Kind>, Stop>
+        ensures { HeadRead self.old.left.now self.old self.new result }
+    {
+        match self.next()? {
+            Token::Line => self.line(),
+            Token::Sum => self.listed(Kind::Sum),
+            Token::Greater => self.listed(Kind::Greater),
+            Token::Root => self.root(),
+            _ => Err(Stop::NoNotation),
+        }
+    }
+
+    // A branch of so many levels at most.
+    #[cycle(branch_branches)]
+    pub(crate) fn branch(&mut self, levels: usize) -> Result<(), Stop>
+        ensures { BranchRead levels self.old self.new result }
+    {
+        if levels == 0 {
+            return Err(Stop::NoNotation);
+        }
+        let at = self.words.len();
+        let Some(kind) = self.head()? else {
+            return Ok(());
         };
-        match token {
-            Token::Close => return Ok(Some((count, rest))),
-            Token::Comma => left = rest,
-            _ => return Ok(None),
+        let count = self.branches(levels - 1)?;
+        self.words[at] = kind.word(count);
+        Ok(())
+    }
+
+    // The branches up to `)`, and how many they are, clipped to the largest value.
+    #[cycle(branch_branches)]
+    fn branches(&mut self, levels: usize) -> Result<u32, Stop>
+        ensures { ListRead levels self.old self.new result }
+    {
+        if self.closes() {
+            return Ok(0);
+        }
+        let mut count = 0;
+        loop {
+            self.branch(levels)?;
+            count = clipped(count + 1);
+            match self.next()? {
+                Token::Close => return Ok(count),
+                Token::Comma => {}
+                _ => return Err(Stop::NoNotation),
+            }
+        }
+    }
+
+    // The words, where no token is left.
+    pub(crate) fn finish(self) -> Result<Vec<u32>, Stop>
+        ensures { Answer result (λ v. (self.entry.left.now ≡ []) × (v.items ≡ self.entry.words.items)) (self.entry.left.now ≢ []) }
+    {
+        if self.left.is_empty() {
+            Ok(self.words)
+        } else {
+            Err(Stop::NoNotation)
         }
     }
 }

@@ -1,16 +1,15 @@
 // Cuts a text into the tokens of the notation: names, numbers and marks.
-ghost use Rattle.std.specs.Prelude.{◌≡◌, false, IfOk, vec_items};
-ghost use Rattle.notation.specs.Pieces.{is_space_byte, is_mark_byte, is_in_run, run};
+ghost use Rattle.std.specs.Prelude.{◌≡◌, ◌||◌, false, Some, None, position};
+ghost use Rattle.notation.specs.Pieces.{is_space_byte, is_mark_byte, run};
+ghost use Rattle.notation.specs.Steps.{Answer};
 ghost use Rattle.notation.specs.Tokens.{number_of, name_of, mark_of, token_of_piece, tokens};
-ghost use Rattle.std.specs.Option.{option_map};
 ghost use Rattle.std.specs.Str.{bytes_eq};
 
-use std::alloc::{AllocError, Global};
+use crate::stop::Stop;
+use std::alloc::Global;
+use words::MOST_VALUE;
 
-// The largest value of a word.
-pub(crate) const LARGEST: u32 = 0x0fff_ffff;
-
-#[derive(Clone, Copy)]
+#[derive(Clone, Copy, PartialEq)]
 pub(crate) enum Token {
     Line,
     Sum,
@@ -27,36 +26,28 @@ pub(crate) enum Token {
 fn is_space(b: u8) -> bool
     ensures { result ≡ is_space_byte b }
 {
-    b == b' ' || b == b'\t' || b == b'\r' || b == b'\n'
+    matches!(b, b' ' | b'\t' | b'\r' | b'\n')
 }
 
 fn is_mark(b: u8) -> bool
     ensures { result ≡ is_mark_byte b }
 {
-    b == b'(' || b == b')' || b == b',' || b == b'[' || b == b']'
+    matches!(b, b'(' | b')' | b',' | b'[' | b']')
 }
 
-fn in_run(b: u8) -> bool
-    ensures { result ≡ is_in_run b }
+// Whether a byte is part of no run.
+fn ends_run(b: u8) -> bool
+    ensures { result ≡ (is_space_byte b || is_mark_byte b) }
 {
-    !(is_space(b) || is_mark(b))
+    is_space(b) || is_mark(b)
 }
 
 // The number that a piece stands for, clipped to the largest.
 fn number(piece: &[u8]) -> Option<Token>
     ensures { result ≡ number_of piece.now }
 {
-    if piece.is_empty() {
-        return None;
-    }
-    let mut n: u32 = 0;
-    for b in piece {
-        if !b.is_ascii_digit() {
-            return None;
-        }
-        n = (n * 10 + u32::from(*b - b'0')).min(LARGEST);
-    }
-    Some(Token::Number(n))
+    let n = digits::number(piece, u64::from(MOST_VALUE))?;
+    Some(Token::Number(n as u32))
 }
 
 fn is(piece: &[u8], name: &[u8]) -> bool
@@ -66,6 +57,7 @@ fn is(piece: &[u8], name: &[u8]) -> bool
 }
 
 // The name or the number that a piece is, where it is one.
+// By `if`: a match on names goes byte by byte, and its proof did not close.
 fn name_of(piece: &[u8]) -> Option<Token>
     ensures { result ≡ name_of piece.now }
 {
@@ -101,27 +93,26 @@ fn token_of(piece: &[u8]) -> Option<Token>
     ensures { result ≡ token_of_piece piece.now }
 {
     let first = piece.first()?;
-    match mark_of(*first) {
-        Some(mark) => Some(mark),
-        None => name_of(piece),
-    }
+    mark_of(*first).or_else(|| name_of(piece))
 }
 
-// How long the run is that a text begins with.
+// Where the run ends that a text begins with, if something stands behind it.
+fn run_end(text: &[u8]) -> Option<usize>
+    ensures { result ≡ position (λ b. is_space_byte b || is_mark_byte b) text.now }
+{
+    text.iter().position(|b| ends_run(*b))
+}
+
+// How long that run is.
 fn run_len(text: &[u8]) -> usize
     ensures { result ≡ run text.now }
 {
-    for (i, b) in text.iter().enumerate() {
-        if !in_run(*b) {
-            return i;
-        }
-    }
-    text.len()
+    run_end(text).unwrap_or(text.len())
 }
 
 // The tokens of a text, where each of its pieces is one.
-pub(crate) fn tokens(heap: Global, text: &[u8]) -> Result<Option<Vec<Token>>, AllocError>
-    ensures { IfOk result (λ v. option_map vec_items v ≡ tokens text.now) }
+pub(crate) fn tokens(heap: Global, text: &[u8]) -> Result<Vec<Token>, Stop>
+    ensures { Answer result (λ v. Some v.items ≡ tokens text.now) (None ≡ tokens text.now) }
 {
     let mut all = Vec::new(heap);
     let mut left = text;
@@ -131,11 +122,8 @@ pub(crate) fn tokens(heap: Global, text: &[u8]) -> Result<Option<Vec<Token>>, Al
             continue;
         }
         let (piece, rest) = left.split_at(run_len(left).max(1));
-        let Some(token) = token_of(piece) else {
-            return Ok(None);
-        };
-        all.push(token)?;
+        all.push(token_of(piece).ok_or(Stop::NoNotation)?)?;
         left = rest;
     }
-    Ok(Some(all))
+    Ok(all)
 }

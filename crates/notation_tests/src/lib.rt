@@ -8,23 +8,21 @@ mod tests {
     use std::process::Abort;
     use std::test::Fail;
 
+    // The words that the text stands for.
+    fn read(heap: Global, text: &[u8]) -> Result<Vec<u32>, Fail> {
+        words_of(heap, text)?.ok_or_else(|| Fail::new("it is no notation"))
+    }
+
     // The text stands for these words.
     fn stands(rt: &impl Abort, heap: Global, text: &[u8], words: &[u32]) -> Result<(), Fail> {
-        match words_of(heap, text)? {
-            Some(found) => {
-                assert!(rt; found.as_slice() == words);
-                Ok(())
-            },
-            None => Err(Fail::new("it is no notation")),
-        }
+        assert_eq!(rt; read(heap, text)?.as_slice(), words);
+        Ok(())
     }
 
     // The text is no notation.
-    fn is_none(heap: Global, text: &[u8]) -> Result<(), Fail> {
-        match words_of(heap, text)? {
-            Some(_) => Err(Fail::new("it is a notation")),
-            None => Ok(()),
-        }
+    fn is_none(rt: &impl Abort, heap: Global, text: &[u8]) -> Result<(), Fail> {
+        assert!(rt; words_of(heap, text)?.is_none(), "it is a notation");
+        Ok(())
     }
 
     #[test]
@@ -72,18 +70,18 @@ mod tests {
     #[test]
     fn no_notation(rt: HostRuntime) -> Result<(), Fail> {
         let heap = rt.alloc();
-        is_none(heap, b"")?;
-        is_none(heap, b"line")?;
-        is_none(heap, b"line1")?;
-        is_none(heap, b"Line 1")?;
-        is_none(heap, b"line -1")?;
-        is_none(heap, b"line 1 line 2")?;
-        is_none(heap, b"root(line 1)")?;
-        is_none(heap, b"root[25, 50](line 1)")?;
-        is_none(heap, b"sum(line 1,)")?;
-        is_none(heap, b"sum(line 1")?;
-        is_none(heap, b"sum(line 1))")?;
-        is_none(heap, b"choice(line 1, line 2)")
+        is_none(&rt, heap, b"")?;
+        is_none(&rt, heap, b"line")?;
+        is_none(&rt, heap, b"line1")?;
+        is_none(&rt, heap, b"Line 1")?;
+        is_none(&rt, heap, b"line -1")?;
+        is_none(&rt, heap, b"line 1 line 2")?;
+        is_none(&rt, heap, b"root(line 1)")?;
+        is_none(&rt, heap, b"root[25, 50](line 1)")?;
+        is_none(&rt, heap, b"sum(line 1,)")?;
+        is_none(&rt, heap, b"sum(line 1")?;
+        is_none(&rt, heap, b"sum(line 1))")?;
+        is_none(&rt, heap, b"choice(line 1, line 2)")
     }
 
     #[test]
@@ -104,21 +102,15 @@ mod tests {
         indent: u8,
         text: &str,
     ) -> Result<(), Fail> {
-        match show(heap, words, indent)? {
-            Some(found) => {
-                assert_eq!(rt; found.as_str(), text);
-                stands(rt, heap, found.as_bytes(), words)
-            }
-            None => Err(Fail::new("it is no tree")),
-        }
+        let found = show(heap, words, indent)?.ok_or_else(|| Fail::new("it is no tree"))?;
+        assert_eq!(rt; found.as_str(), text);
+        stands(rt, heap, found.as_bytes(), words)
     }
 
     // The words are no tree.
-    fn no_tree(heap: Global, words: &[u32]) -> Result<(), Fail> {
-        match show(heap, words, 0)? {
-            Some(_) => Err(Fail::new("it is a tree")),
-            None => Ok(()),
-        }
+    fn no_tree(rt: &impl Abort, heap: Global, words: &[u32]) -> Result<(), Fail> {
+        assert!(rt; show(heap, words, 0)?.is_none(), "it is a tree");
+        Ok(())
     }
 
     #[test]
@@ -155,12 +147,13 @@ mod tests {
     #[test]
     fn not_shown(rt: HostRuntime) -> Result<(), Fail> {
         let heap = rt.alloc();
-        no_tree(heap, &[])?;
-        no_tree(heap, &[0x20000000])?;
-        no_tree(heap, &[0x1000001e])?;
-        no_tree(heap, &[0x10000001, 0x10000002])?;
-        no_tree(heap, &[0x20000002, 0x10000001])?;
+        no_tree(&rt, heap, &[])?;
+        no_tree(&rt, heap, &[0x20000000])?;
+        no_tree(&rt, heap, &[0x1000001e])?;
+        no_tree(&rt, heap, &[0x10000001, 0x10000002])?;
+        no_tree(&rt, heap, &[0x20000002, 0x10000001])?;
         no_tree(
+            &rt,
             heap,
             &[
                 0x40000003, 0x50000064, 0x50000064, 0x50000000, 0x10000001, 0x10000002, 0x10000003,
@@ -170,26 +163,17 @@ mod tests {
 
     // Sums of one branch, nested over a line, so many of them.
     fn nested(heap: Global, sums: usize) -> Result<String, Fail> {
-        let mut text = String::new(heap);
-        for _ in 0..sums {
-            text.push_str("sum(")?;
-        }
-        text.push_str("line 1")?;
-        for _ in 0..sums {
-            text.push_str(")")?;
-        }
-        Ok(text)
+        let opened = "sum(".repeat(heap, sums)?;
+        let closed = ")".repeat(heap, sums)?;
+        Ok(format!(in heap; "{opened}line 1{closed}")?)
     }
 
     #[test]
     fn depth(rt: HostRuntime) -> Result<(), Fail> {
         let heap = rt.alloc();
         let deepest = nested(heap, 511)?;
-        match words_of(heap, deepest.as_bytes())? {
-            Some(words) => assert_eq!(rt; words.len(), 512),
-            None => return Err(Fail::new("it is no notation")),
-        }
+        assert_eq!(rt; read(heap, deepest.as_bytes())?.len(), 512);
         let deeper = nested(heap, 512)?;
-        is_none(heap, deeper.as_bytes())
+        is_none(&rt, heap, deeper.as_bytes())
     }
 }

@@ -1,8 +1,9 @@
 -- Statements that are written out plainly are the meaning of that text.
-use Rattle.std.proofs.Common.{◌≡◌, ℕ, ◌+◌, ◌^◌, ◌<◌, ◌≤◌, min, true, false, List, [], ◌∷◌, ◌++◌, map, length, Some, Ok, Err, decimal, Result, Vec, sym, refl, ap, ◌∙◌, arith, rules}
-use Rattle.std.proofs.lemmas.Fmt.{decimal_nonempty, digits_decimal, digits_value-decimal}
+use Rattle.std.proofs.Common.{◌≡◌, ℕ, ◌+◌, ◌^◌, ◌<◌, ◌≤◌, true, false, List, [], ◌∷◌, ◌++◌, map, length, Some, Ok, Err, decimal, Result, Vec, sym, refl, ap, ◌∙◌, arith, rules}
+use Rattle.std.proofs.lemmas.Fmt.{decimal_nonempty, digits_decimal}
 use Rattle.std.proofs.ByRecursion.{All-append, All-weaker}
-use Rattle.std.proofs.lemmas.Str.Parse.{IsNumeralModel, numerals_by_fold, tells_all_ascii_digits}
+use Rattle.std.proofs.lemmas.Str.Parse.{tells_all_ascii_digits}
+use Rattle.digits.proofs.Decimals.{own, number_decimal}
 use Rattle.std.proofs.lemmas.Bool.{cond-true, cond-false, or_from, ne_eqb}
 use Rattle.std.specs.declared.alloc.Global.{Global}
 use Rattle.std.specs.List.{AllByRecursion}
@@ -13,11 +14,10 @@ use Rattle.script.specs.declared.Statement.{Statement}
 use Rattle.script.specs.declared.words.Mark.{Mark}
 use Rattle.script.specs.declared.words.Mark.TheVariants.{LineEnd, Comment, Space}
 use Rattle.script.specs.Meaning.{Said, Told, table, root, total, price_standard, table_of, root_of, total_of, above, line_above, lines_from, meaning, Parsed}
-use Rattle.script.specs.Numbers.{largest, written, number_of, both, numbers_of}
+use Rattle.script.specs.Numbers.{largest, both, numbers_of}
 use Rattle.script.specs.Pieces.{is_mark_byte, before, joins, pieces, filled, lines, words}
 use Rattle.script.specs.Plain.{words_in, numbers_in, spaced, plain_line, plain_text, Within, ReadBack}
 use Rattle.script.proofs.Cuts.{filled_some}
-use Rattle.script.proofs.Saturates.{of_some}
 
 -- bytes none of which is the mark
 abbrev Free : Mark → List ℕ → Type 0
@@ -54,21 +54,9 @@ high_digits : (ds : List ℕ) → all_ascii_digits ds ≡ true → AllByRecursio
 high_digits [] h = tt
 high_digits (c ∷ cs) h = let p = tells_all_ascii_digits.parts c cs h in (p.0.0, high_digits cs p.1)
 
--- `written` reads digits as the library does
-own : IsNumeralModel (λ ds. all_ascii_digits ds ≡ true) (written 0)
-own = numerals_by_fold _ tells_all_ascii_digits written (search rules)
-
-number_decimal : (n : ℕ) → n ≤ largest → number_of (decimal n) ≡ Some n
-number_decimal n h =
-    let small : n < 2 ^ 64 = omega arith in
-    let some = decimal_nonempty n small in
-    let cut : min n largest ≡ n = omega arith in
-    sym (of_some (decimal n) (sym (ne_eqb _ 0 (λ e. omega arith))))
-    ∙ cond-true _ _ _ (digits_decimal own n small) ∙ ap (λ k. Some (min k largest)) (digits_value-decimal own n small) ∙ ap Some cut
-
 numbers_decimal : (ns : List ℕ) → AllByRecursion (λ n. n ≤ largest) ns → numbers_of (map decimal ns) ≡ Some ns
 numbers_decimal [] h = refl
-numbers_decimal (n ∷ ns) h = ap (λ o. both o (numbers_of (map decimal ns))) (number_decimal n h.0) ∙ ap (both (Some n)) (numbers_decimal ns h.1)
+numbers_decimal (n ∷ ns) h = ap (λ o. both o (numbers_of (map decimal ns))) (number_decimal largest n h.0 (omega (arith, h.0))) ∙ ap (both (Some n)) (numbers_decimal ns h.1)
 
 whole_decimals : (ns : List ℕ) → AllByRecursion (λ n. n ≤ largest) ns → AllByRecursion Whole (map decimal ns)
 whole_decimals [] h = tt

@@ -1,6 +1,5 @@
 -- Lemmas that the proofs share.
 pub mod Cuts
 pub mod Behind
-pub mod Saturates
 pub mod Turns
 pub mod Back

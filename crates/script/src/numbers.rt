@@ -11,17 +11,7 @@ use std::alloc::{AllocError, Global};
 pub fn number(word: &[u8]) -> Option<u64>
     ensures { result ≡ number_of word.now }
 {
-    if word.is_empty() {
-        return None;
-    }
-    let mut n: u64 = 0;
-    for b in word {
-        if !b.is_ascii_digit() {
-            return None;
-        }
-        n = n.saturating_mul(10).saturating_add(u64::from(*b - b'0'));
-    }
-    Some(n)
+    digits::number(word, u64::MAX)
 }
 
 // The numbers that the words of a text stand for, where each stands for one.

@@ -1,9 +1,11 @@
--- The first entry, and then each with a space before it.
-use Rattle.std.proofs.Common.{get_or, string_bytes}
-use Rattle.notation.proofs.Shows.{entry_pushed}
+-- Each entry is written as its value.
+use Rattle.std.proofs.Common.{◌≡◌, ◌%◌, ◌++◌, Some, decimal, string_bytes, ap, ◌∙◌, rules}
+use Rattle.std.proofs.lemmas.Result.{on_ok_weaker}
+use Rattle.words.specs.Words.{value_room}
+use Rattle.notation.proofs.Gaps.{spaced_values}
 use Rattle.notation.proofs.showing.push_entries.Goals as goal
 
-pub loop-entry-preserved : goal.loop-entry-preserved
-loop-entry-preserved c start so =
-    entry_pushed (get_or c.args.entries.now 0 0) c.in-Some.others.now c.loop-entry.entry-index start (string_bytes c.loop-entry.text) (string_bytes c.push_str.new.self) (string_bytes c.push_number-in-loop-entry.new.text)
-    c.loop-entry-test.true (c.loop-entry.invariant start so) c.in_ok-push_str.ensures.bytes c.in_ok-push_number-2.ensures
+pub returns : goal.returns
+returns c =
+    let written = c.push_spaced.ensures (λ v. decimal (v % value_room)) (λ x y small shown. let is : y ≡ x % value_room = search rules in ap (λ n. Some (decimal n)) is) in
+    on_ok_weaker c.push_spaced.result (λ e. e ∙ ap (λ x. string_bytes c.args.text.now ++ x) (spaced_values c.args.entries.now)) written

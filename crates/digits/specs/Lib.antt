@@ -1,0 +1,2 @@
+-- What digits write.
+pub mod Numbers
