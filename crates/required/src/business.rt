@@ -24,7 +24,7 @@ pub(crate) struct RatedBusiness {
 
 impl RatedBusiness {
     // In hundred-thousandths of a unit.
-    #[tactic(auto, unfolding(crate::specs::Figures::business_part), using(crate::proofs::Small::told))]
+    #[tactic(auto, unfolding(crate::specs::Figures::business_part))]
     pub(crate) fn part(&self) -> u64
         ensures value { result ≡ business_part self.now.premium_rate self.now.estimate_rate self.now.business }
         ensures bound { result ≤ 8000000000000 }

@@ -16,7 +16,7 @@ struct Sum {
 
 impl InRange {
     // In hundred-thousandths of a unit.
-    #[tactic(auto, unfolding(crate::specs::Figures::raw_charge_of), using(crate::proofs::Small::told))]
+    #[tactic(auto, unfolding(crate::specs::Figures::raw_charge_of))]
     fn raw_charge(&self) -> u64
         ensures value { result ≡ raw_charge_of self.now.settings }
         ensures bound { result ≤ 20000000000000 }
@@ -79,7 +79,7 @@ impl InRange {
     }
 
     // All figures at a charge.
-    #[tactic(auto, unfolding(crate::specs::Figures::tax_effect_of), using(crate::proofs::Small::told))]
+    #[tactic(auto, unfolding(crate::specs::Figures::tax_effect_of))]
     pub(crate) fn required_at(&self, charge: u32, roundings: u32) -> Required
         ensures { result ≡ required_of self.now.settings charge roundings }
     {
