@@ -36,7 +36,7 @@ def counted(rule, bins, r):
 
 
 def class_of(ratio):
-    return 0 if ratio >= 10_000 else 1 if ratio >= 7_000 else 2 if ratio >= 3_500 else 3
+    return "NoAction" if ratio >= 10_000 else "First" if ratio >= 7_000 else "Second" if ratio >= 3_500 else "Third"
 
 
 def refusal(given):
@@ -52,10 +52,9 @@ def refusal(given):
     return None
 
 
-def answers(given):
+def ratios(given):
     required = required_capital(*given[:4])
-    ratios = [floor(Fraction(10_000 * floor(counted(rule, given[4:], required)), required)) for rule in RULES]
-    return ratios, [class_of(x) for x in ratios]
+    return [floor(Fraction(10_000 * floor(counted(rule, given[4:], required)), required)) for rule in RULES]
 
 
 def units(n, *bins):
@@ -107,20 +106,25 @@ def main():
     for case in given():
         number = refusal(case)
         if number is None:
-            ratios, classes = answers(case)
-            answered.append(f"    ({case}, {ratios}, {classes}),")
+            rated = ", ".join(f"({ratio}, {class_of(ratio)})" for ratio in ratios(case))
+            answered.append(f"    ({case}, {rated}),")
         else:
             refused.append(f"    ({case}, {number}),")
     lines = [
         "// Written by tools/ratio_cases.py: the total of line 1 in ten-thousandths, tax rate, refund and deduction, bins 1 to 7, with the answer.",
         "",
-        "// The ratio and the class, 0 for no action, under the stock rule, with loss absorption, and under the mutual rule.",
-        f"pub const ANSWERED: [([i64; 11], [u128; 3], [u8; 3]); {len(answered)}] = [",
+        "use ratio::SupervisoryClass::{self, First, NoAction, Second, Third};",
+        "",
+        "// A ratio and its class.",
+        "pub type Rated = (u128, SupervisoryClass);",
+        "",
+        "// Under the stock rule, with loss absorption, and under the mutual rule.",
+        f"pub static ANSWERED: [([i64; 11], Rated, Rated, Rated); {len(answered)}] = [",
         *answered,
         "];",
         "",
         "// The number of the refusal, under every rule.",
-        f"pub const REFUSED: [([i64; 11], u8); {len(refused)}] = [",
+        f"pub static REFUSED: [([i64; 11], u8); {len(refused)}] = [",
         *refused,
         "];",
     ]

@@ -23,13 +23,11 @@ mod tests {
         let mut table = Table::new(3)?;
         table.replace_above(3, &[0, 70, 70])?;
         assert_eq!(rt; table.entry(2, 0), Some(70));
-        match table.replace_above(3, &[0, 71, 71]) {
-            Ok(()) => Err(Fail::new("71 was taken")),
-            Err(refusal) => {
-                assert_eq!(rt; refusal.number(), 24);
-                Ok(())
-            },
-        }
+        let refused = table
+            .replace_above(3, &[0, 71, 71])
+            .map_err(|refusal| refusal.number());
+        assert_eq!(rt; refused, Err(24));
+        Ok(())
     }
 
     #[test]

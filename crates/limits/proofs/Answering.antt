@@ -10,8 +10,7 @@ use Rattle.std.proofs.lemmas.Int.{ints}
 
 -- an answer that is no refusal
 pub answered : {A : Type 0} (z : ℤ) (x y : A) → ◌≡◌ {A = Result A Refusal} (Ok y) (unless_below z x) → (pos 0 ≤ℤ z) × (y ≡ x)
-answered (pos total) x y e = (omega (arith, ints), cc)
-answered (negsuc total) x y e = let z : ◌≡◌ {A = ℕ} 0 1 = cc in absurd (omega arith)
+answered z x y e = grind (arith, ints)
 
 -- no more is answered than all bins together
 pub counted_most : (s : Sheet) (scale : ℕ) (c : ℕ → ℕ → ℕ) (w n : ℕ) → (pos 0 ≤ℤ s.uncapped → Counts scale s c) → Ok n ≡ counted_answer s scale (c w 1) → n ≤ all_of (bins_of s)

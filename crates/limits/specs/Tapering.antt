@@ -1,8 +1,7 @@
 -- Amounts that taper: how they are made. Assumes nothing.
 use Rattle.std.specs.Prelude.{◌≡◌, ℕ, ◌+◌, ◌*◌, min}
-use Rattle.std.proofs.Common.{ap, ⊎_elim, mul-le-mul_left, le_of_lt, arith}
+use Rattle.std.proofs.Common.{ap, mul-le-mul_left, arith}
 use Rattle.limits.specs.Rules.{Tapers}
-use Rattle.std.proofs.lemmas.Bool.{cases_lt}
 
 -- x of the parts, whatever required capital is
 pub fixed : (x : ℕ) → Tapers (λ w k. k * x)
@@ -25,11 +24,7 @@ added a b = record {
 }
 
 min_mul : (x y n : ℕ) → min x y * n ≡ min (x * n) (y * n)
-min_mul x y n =
-    ⊎_elim
-    (λ l. let first : min x y ≡ x = omega arith in omega (arith, ap (λ m. m * n) first, mul-le-mul_left n (le_of_lt l)))
-    (λ l. let second : min x y ≡ y = omega arith in omega (arith, ap (λ m. m * n) second, mul-le-mul_left n l))
-    (cases_lt x y)
+min_mul x y n = grind (arith, mul-le-mul_left)
 
 pub lesser : {f g : ℕ → ℕ → ℕ} → Tapers f → Tapers g → Tapers (λ w k. min (f w k) (g w k))
 lesser {f} {g} a b = record {

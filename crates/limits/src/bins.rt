@@ -1,5 +1,5 @@
 // The capital of a sheet, by its bins, and the parts of it that both rules count alike.
-ghost use Rattle.std.specs.Prelude.{◌≡◌};
+ghost use Rattle.std.specs.Prelude.{◌≡◌, ◌+◌, ◌*◌, ◌/◌, min};
 ghost use Rattle.limits.specs.Capital.{unless_below, bins_of};
 ghost use Rattle.limits.specs.Limits.{basket as basket_of, tier_one_counted, tier_two_counted};
 
@@ -26,12 +26,9 @@ impl Bins {
     pub fn of(sheet: &Sheet) -> Result<Bins, Refusal>
         ensures { result ≡ unless_below sheet.now.uncapped (bins_of sheet.now) }
     {
-        let uncapped = sheet.uncapped();
-        if uncapped < 0 {
-            return Err(Refusal::UncappedBelowZero);
-        }
+        let uncapped = u64::try_from(sheet.uncapped()).map_err(|_| Refusal::UncappedBelowZero)?;
         Ok(Bins {
-            uncapped: uncapped as u64,
+            uncapped,
             limited: sheet.capped(2).unwrap_or(0),
             paid: sheet.capped(3).unwrap_or(0),
             unpaid: sheet.capped(4).unwrap_or(0),
@@ -63,5 +60,17 @@ impl Bins {
             + 100 * u128::from(self.deferred)
             + 10 * u128::from(self.software);
         weighted.min(15 * u128::from(required))
+    }
+
+    // Bin 1, limited Tier 1 up to so many percent of required capital, Tier 2 up to so many hundredths of a unit, and the
+    // basket: in units, rounded down.
+    pub(crate) fn counted(&self, percent: u8, most_tier_two: u128, required: u64) -> u128
+        ensures { result ≡ (100 * self.now.uncapped + tier_one_counted percent self.now required 1 + min (tier_two_counted self.now required 1) most_tier_two + basket_of self.now required 1) / 100 }
+    {
+        let hundredths = 100 * u128::from(self.uncapped)
+            + self.tier_one(percent, required)
+            + self.tier_two(required).min(most_tier_two)
+            + self.basket(required);
+        hundredths / 100
     }
 }

@@ -23,14 +23,7 @@ impl LimitRule for Mutual {
 
     fn counted(&self, sheet: &Sheet, required: u64) -> Result<u128, Refusal> {
         let bins = Bins::of(sheet)?;
-        let tier_one = bins.tier_one(30, required);
-        let tier_two = bins
-            .tier_two(required)
-            .min(60 * u128::from(required) - tier_one);
-        let hundredths = 100 * u128::from(bins.uncapped)
-            + tier_one
-            + tier_two
-            + bins.basket(required);
-        Ok(hundredths / 100)
+        let most_tier_two = 60 * u128::from(required) - bins.tier_one(30, required);
+        Ok(bins.counted(30, most_tier_two, required))
     }
 }

@@ -25,13 +25,8 @@ impl LimitRule for Stock {
     ghost counts = { λ m s standing. stock_counts m.loss_absorption s };
 
     fn counted(&self, sheet: &Sheet, required: u64) -> Result<u128, Refusal> {
-        let bins = Bins::of(sheet)?;
         let percent = if self.loss_absorption { 15 } else { 10 };
-        let tier_two = bins.tier_two(required).min(50 * u128::from(required));
-        let hundredths = 100 * u128::from(bins.uncapped)
-            + bins.tier_one(percent, required)
-            + tier_two
-            + bins.basket(required);
-        Ok(hundredths / 100)
+        let most_tier_two = 50 * u128::from(required);
+        Ok(Bins::of(sheet)?.counted(percent, most_tier_two, required))
     }
 }

@@ -49,6 +49,7 @@ impl LimitRule for Notice {
                 (tier_one, bins.tier_two(required), 60 * r - tier_one)
             }
         };
+        // Not the sum of the book's two rules, which one call would serve: here the basket stands within the limit of Tier 2.
         let excess = 100 * u128::from(bins.limited) - tier_one;
         let tier_two = (tier_two + excess + bins.basket(required)).min(most);
         Ok((100 * u128::from(bins.uncapped) + tier_one + tier_two) / 100)

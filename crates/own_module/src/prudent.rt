@@ -7,19 +7,15 @@
 // - the questions `gross`, `roundings` and `charge`, each answered as for that tree.
 // The lemma behind `bounded` stands in specs/Lone.antt, and the proofs that the check does not find by itself in proofs/prudent.
 ghost use Rattle.std.specs.Prelude.{◌≡◌, ◌+◌, []};
-ghost use Rattle.modules.specs.Answers.{roundings_answer};
 ghost use Rattle.modules.specs.Trees.{root, more, none};
 ghost use Rattle.own_module.specs.Lone.{lone_bounded};
 ghost use Rattle.std.proofs.Common.{rules};
 
-use modules::{Charge, RiskModule, Sheet};
+use modules::{Charge, RiskModule, Sheet, roundings_within};
 use refusals::Refusal;
 
 #[cfg(test)]
 mod tests;
-
-// More roundings are refused.
-const MOST_ROUNDINGS: u32 = 1_000;
 
 // The root over a lone branch, whose own rounding allows a unit more than the branch.
 #[derive(Clone, Copy, Drop)]
@@ -33,16 +29,6 @@ impl<M: RiskModule> Prudent<M> {
     {
         Prudent { branch }
     }
-}
-
-// Roundings with one more, unless they are too many.
-fn one_more(roundings: u32) -> Result<u32, Refusal>
-    ensures { result ≡ roundings_answer (roundings + 1) }
-{
-    if roundings >= MOST_ROUNDINGS {
-        return Err(Refusal::TooManyRoundings);
-    }
-    Ok(roundings + 1)
 }
 
 impl<M: RiskModule> RiskModule for Prudent<M> {
@@ -59,12 +45,12 @@ impl<M: RiskModule> RiskModule for Prudent<M> {
     }
 
     fn roundings(&self, sheet: &Sheet) -> Result<u32, Refusal> {
-        one_more(self.branch.roundings(sheet)?)
+        roundings_within(u64::from(self.branch.roundings(sheet)?) + 1)
     }
 
     fn charge(&self, sheet: &Sheet) -> Result<Charge, Refusal> {
         let branch = self.branch.charge(sheet)?;
-        let roundings = one_more(branch.roundings)?;
+        let roundings = roundings_within(u64::from(branch.roundings) + 1)?;
         Ok(Charge {
             amount: branch.amount + 1,
             gross: branch.gross,

@@ -1,5 +1,5 @@
 -- A ratio is never above what is counted against a smaller required capital. Assumes nothing.
-use Rattle.std.proofs.Common.{◌≡◌, ℕ, ◌*◌, ◌/◌, ◌^◌, ◌<◌, ◌≤◌, Bool, true, false, cond, eqb, leb, get_or, ℤ, pos, negsuc, ◌≤ℤ◌, IfOk, Ok, Err, Result, sym, refl, ap, subst, mul-le-mul_right, mul-le-mul_left, div-mul-le_self, le_of_mul-le-mul_right, arith, w64, Fits, SFits}
+use Rattle.std.proofs.Common.{◌≡◌, ℕ, ◌*◌, ◌/◌, ◌^◌, ◌<◌, ◌≤◌, Bool, true, false, cond, eqb, get_or, ℤ, pos, ◌≤ℤ◌, IfOk, Ok, Err, Result, sym, refl, ap, subst, mul-le-mul_right, mul-le-mul_left, div-mul-le_self, le_of_mul-le-mul_right, arith, w64, Fits, SFits}
 use native.Mathlib.Nat.{mul-div-le}
 use Rattle.limits.specs.Capital.{bins_of, all_of, whole, unless_below}
 use Rattle.limits.specs.Rules.{Counts}
@@ -9,17 +9,16 @@ use Rattle.modules.specs.Bounds.{Floor}
 use Rattle.modules.specs.Trees.{Tree}
 use Rattle.ratio.specs.Classes.{lowest, class_of}
 use Rattle.ratio.specs.Ratios.{ratio_of, solvency_of, held_against, Covered, Cautious, SameRatios}
-use Rattle.ratio.specs.declared.class.SupervisoryClass.TheVariants.{NoAction, First, Second, Third}
 use Rattle.ratio.specs.declared.solvency.Solvency.{Solvency}
 use Rattle.refusals.specs.declared.Refusal.{Refusal}
 use Rattle.refusals.specs.declared.Refusal.TheVariants.{RequiredIsZero}
 use Rattle.required.specs.Exact.{exact_figure, figure_unit}
 use Rattle.required.specs.declared.settings.Settings.{Settings}
-use Rattle.std.proofs.lemmas.Bool.{leb-true, eqb-false}
+use Rattle.std.proofs.lemmas.Bool.{eqb-false}
+use Rattle.std.proofs.lemmas.Grind.{common_steps}
 
 whole_small : (z : ℤ) → SFits w64 z → whole z < 2 ^ 63
-whole_small (pos n) f = f.sfits
-whole_small (negsuc n) f = omega arith
+whole_small z f = grind (arith, f)
 
 -- the bins of a sheet are far from the end of the numbers
 pub bins_small : (s : Sheet) → SFits w64 s.uncapped → ((i : ℕ) → Fits w64 (get_or s.capped i 0)) → 10000 * all_of (bins_of s) < 2 ^ 128
@@ -33,18 +32,12 @@ ratio_holds scale r c e d some tapers =
     let parts : scale * (x * r) ≤ 10000 * c = omega (arith, mul-le-mul_left scale at_r, mul-div-le c scale) in
     le_of_mul-le-mul_right {m = scale * (x * e)} {n = 10000 * d} {k = r} (omega (arith, mul-le-mul_left e parts)) some
 
-lowest_by : (x : ℕ) (a b d : Bool) → (a ≡ true → 10000 ≤ x) → (b ≡ true → 7000 ≤ x) → (d ≡ true → 3500 ≤ x) → lowest (cond a NoAction (cond b First (cond d Second Third))) ≤ x
-lowest_by x true b d p q r = p refl
-lowest_by x false true d p q r = q refl
-lowest_by x false false true p q r = r refl
-lowest_by x false false false p q r = omega arith
-
 -- a ratio is at least the lowest of its class
 pub class_reached : (x : ℕ) → lowest (class_of x) ≤ x
-class_reached x = lowest_by x (leb 10000 x) (leb 7000 x) (leb 3500 x) (leb-true 10000 x) (leb-true 7000 x) (leb-true 3500 x)
+class_reached x = grind (arith, common_steps)
 
 held_by : (b : Bool) (z : ℤ) (x q : Solvency) → Ok q ≡ cond b (Err RequiredIsZero) (unless_below z x) → (b ≡ false) × (pos 0 ≤ℤ z) × (q ≡ x)
-held_by true z x q e = let z : ◌≡◌ {A = ℕ} 0 1 = cc in absurd (omega arith)
+held_by true z x q e = grind arith
 held_by false z x q e = let told = answered z x q e in (refl, told.0, told.1)
 
 -- What is held against required capital r is cautious, where r is not below the exact figure at any floor.

@@ -15,15 +15,14 @@ impl SupervisoryClass {
     pub fn of(ratio: u128) -> SupervisoryClass
         ensures { result ≡ class_of ratio }
     {
-        if ratio >= 10_000 {
-            SupervisoryClass::NoAction
-        } else if ratio >= 7_000 {
-            SupervisoryClass::First
-        } else if ratio >= 3_500 {
-            SupervisoryClass::Second
-        } else {
-            SupervisoryClass::Third
-        }
+        [
+            SupervisoryClass::NoAction,
+            SupervisoryClass::First,
+            SupervisoryClass::Second,
+        ]
+        .into_iter()
+        .find(|class| class.lowest_ratio() <= ratio)
+        .unwrap_or(SupervisoryClass::Third)
     }
 
     // The lowest ratio of the class.

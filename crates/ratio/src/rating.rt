@@ -8,6 +8,7 @@ use modules::Sheet;
 use refusals::Refusal;
 
 // The ratio of the capital that a rule counts to required capital.
+// The sheet is passed by value: behind a `&`, the proof that the product fits did not close, for want of the sizes of its totals.
 pub(crate) fn rated<R: LimitRule>(
     rule: &R,
     sheet: Sheet,

@@ -9,7 +9,7 @@ use refusals::Refusal;
 use required::{Business, Settings};
 use std::process::Abort;
 use std::test::Fail;
-use table::{ANSWERED, REFUSED};
+use table::{ANSWERED, REFUSED, Rated};
 use tower::Tower;
 
 const STOCK: Stock = Stock {
@@ -44,8 +44,8 @@ fn sheet_of(total: u64, uncapped: i64, capped: [u64; 6]) -> Result<Sheet, Refusa
     let mut sheet = Sheet::new();
     sheet.set_total(1, total)?;
     sheet.set_uncapped(uncapped);
-    for (i, amount) in capped.iter().enumerate() {
-        sheet.set_capped(i + 2, *amount)?;
+    for (bin, amount) in (2..=7).zip(capped) {
+        sheet.set_capped(bin, amount)?;
     }
     Ok(sheet)
 }
@@ -65,14 +65,7 @@ fn answer_to<R: LimitRule>(rule: &R, row: &[i64; 11]) -> Result<Solvency, Refusa
         b6,
         b7,
     ] = *row;
-    let capped = [
-        b2.unsigned_abs(),
-        b3.unsigned_abs(),
-        b4.unsigned_abs(),
-        b5.unsigned_abs(),
-        b6.unsigned_abs(),
-        b7.unsigned_abs(),
-    ];
+    let capped = [b2, b3, b4, b5, b6, b7].map(|amount| amount.unsigned_abs());
     let sheet = sheet_of(total.unsigned_abs(), uncapped, capped)?;
     ratio(
         &Line::new(1)?,
@@ -82,24 +75,12 @@ fn answer_to<R: LimitRule>(rule: &R, row: &[i64; 11]) -> Result<Solvency, Refusa
     )
 }
 
-fn class_number(class: SupervisoryClass) -> u8 {
-    match class {
-        SupervisoryClass::NoAction => 0,
-        SupervisoryClass::First => 1,
-        SupervisoryClass::Second => 2,
-        SupervisoryClass::Third => 3,
-    }
-}
-
 fn check_answer(
     rt: &impl Abort,
     answer: Result<Solvency, Refusal>,
-    ratio: u128,
-    class: u8,
+    (ratio, class): Rated,
 ) -> Result<(), Fail> {
-    let solvency = answer?;
-    assert_eq!(rt; solvency.ratio, ratio);
-    assert_eq!(rt; class_number(solvency.class), class);
+    assert_eq!(rt; answer?, Solvency { ratio, class });
     Ok(())
 }
 
@@ -108,21 +89,17 @@ fn check_refused(
     answer: Result<Solvency, Refusal>,
     number: u8,
 ) -> Result<(), Fail> {
-    match answer {
-        Ok(_) => Err(Fail::new("not refused")),
-        Err(refusal) => {
-            assert_eq!(rt; refusal.number(), number);
-            Ok(())
-        },
-    }
+    let refused = answer.map_err(|refusal| refusal.number());
+    assert_eq!(rt; refused, Err(number));
+    Ok(())
 }
 
 #[test]
 fn answered(rt: HostRuntime) -> Result<(), Fail> {
-    for (row, ratios, classes) in ANSWERED.iter() {
-        check_answer(&rt, answer_to(&STOCK, row), ratios[0], classes[0])?;
-        check_answer(&rt, answer_to(&ABSORBING, row), ratios[1], classes[1])?;
-        check_answer(&rt, answer_to(&Mutual, row), ratios[2], classes[2])?;
+    for (row, stock, absorbing, mutual) in ANSWERED.iter() {
+        check_answer(&rt, answer_to(&STOCK, row), *stock)?;
+        check_answer(&rt, answer_to(&ABSORBING, row), *absorbing)?;
+        check_answer(&rt, answer_to(&Mutual, row), *mutual)?;
     }
     Ok(())
 }
@@ -147,11 +124,14 @@ fn largest_totals(rt: HostRuntime) -> Result<(), Fail> {
     check_answer(
         &rt,
         ratio(&line, &STOCK, &small, &settings),
-        92_233_720_368_547_758_070_000,
-        0,
+        (92_233_720_368_547_758_070_000, SupervisoryClass::NoAction),
     )?;
     let large = sheet_of(2_500_000_000_000, 0, [u64::MAX; 6])?;
-    check_answer(&rt, ratio(&line, &Mutual, &large, &settings), 7_500, 1)
+    check_answer(
+        &rt,
+        ratio(&line, &Mutual, &large, &settings),
+        (7_500, SupervisoryClass::First),
+    )
 }
 
 // Too many roundings come behind a setting and the gross, and before what is required.

@@ -5,7 +5,7 @@ use Rattle.required.specs.Laws.{NeverFalls, RisesSlowly}
 use Rattle.required.specs.declared.settings.Settings.{Settings}
 use Rattle.required.proofs.Rising.{figure_not_less, figure_not_more}
 use Rattle.required.proofs.Scaling.{figure_scales}
-use Rattle.required.proofs.Small.{small}
+use Rattle.required.proofs.Small.{rate_small}
 
 -- both fractions over k·m
 lower : (s : Settings) (w k m : ℕ) → exact_figure s (w * m) (k * m) ≡ exact_figure s w k * m
@@ -20,7 +20,7 @@ step w k v m h = omega arith
 
 pub never_falls : NeverFalls
 never_falls s h w k v m one one' up =
-    omega (arith, lower s w k m, upper s v k m, figure_not_less s (small s h).rate (w * m) (v * k - w * m) (k * m), ap (λ x. exact_figure s x (k * m)) (step w k v m up))
+    omega (arith, lower s w k m, upper s v k m, figure_not_less s (rate_small s h) (w * m) (v * k - w * m) (k * m), ap (λ x. exact_figure s x (k * m)) (step w k v m up))
 
 pub rises_slowly : RisesSlowly
 rises_slowly s h w k v m one one' up =

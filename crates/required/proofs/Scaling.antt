@@ -1,17 +1,12 @@
 -- The exact figure at c·w over c·k is that at w over k, in parts as much smaller. Assumes nothing.
-use Rattle.std.proofs.Common.{◌≡◌, ℕ, ◌+◌, ◌-◌, ◌*◌, min, sym, ap, ◌∙◌, ⊎_elim, le_of_lt, mul-le-mul_left, arith}
-use native.Mathlib.Nat.{mul-sub, min-eq_left, min-eq_right}
-use Rattle.std.proofs.lemmas.Bool.{cases_lt}
+use Rattle.std.proofs.Common.{◌≡◌, ℕ, ◌+◌, ◌-◌, ◌*◌, min, sym, ap, ◌∙◌, mul-le-mul_left, arith}
+use native.Mathlib.Nat.{mul-sub}
 use Rattle.required.specs.Exact.{figure_unit, exact_operational, exact_sum, exact_tax, exact_figure}
 use Rattle.required.specs.Figures.{raw_charge_of, tax_rate_of, refund, profit, net_liabilities, net_assets, deduction}
 use Rattle.required.specs.declared.settings.Settings.{Settings}
 
 mul_min : (c a b : ℕ) → c * min a b ≡ min (c * a) (c * b)
-mul_min c a b =
-    ⊎_elim
-    (λ l. ap (λ x. c * x) (min-eq_left (le_of_lt l)) ∙ sym (min-eq_left (mul-le-mul_left c (le_of_lt l))))
-    (λ l. ap (λ x. c * x) (min-eq_right l) ∙ sym (min-eq_right (mul-le-mul_left c l)))
-    (cases_lt a b)
+mul_min c a b = grind (arith, mul-le-mul_left)
 
 operational_scales : (s : Settings) (c w k : ℕ) → exact_operational s (c * w) (c * k) ≡ c * exact_operational s w k
 unfolding exact_operational

@@ -3,6 +3,7 @@ ghost use Rattle.std.specs.Prelude.{◌≡◌, ℕ, ◌≤◌, IfOk};
 ghost use Rattle.required.specs.Answers.{required_answer, NearExact};
 ghost use Rattle.required.specs.Laws.{NeverFalls, RisesSlowly};
 
+use crate::ranges::InRange;
 use crate::{Required, Settings};
 use modules::{RiskModule, Sheet, price};
 use refusals::Refusal;
@@ -17,9 +18,7 @@ pub fn required_capital<M: RiskModule>(
     ensures answer { result ≡ required_answer settings.now (M.RiskModule.tree «module».now) sheet.now (M.RiskModule.value «module».now sheet.now) }
     ensures near { IfOk result (λ x. (k : ℕ) → 1 ≤ k → NearExact settings.now (M.RiskModule.tree «module».now) sheet.now x.required x.roundings k) }
 {
-    if !settings.in_range() {
-        return Err(Refusal::SettingOutOfRange);
-    }
+    let settings = InRange::of(settings)?;
     let charge = price(module, sheet)?;
     Ok(settings.required_at(charge.amount, charge.roundings))
 }

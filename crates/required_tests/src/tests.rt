@@ -7,55 +7,72 @@ use required::{Business, Required, Settings, required_capital};
 use std::test::Fail;
 use table::{ANSWERED, REFUSED};
 
-// The twelve settings in order, behind the charge.
-fn settings_of(given: &[i64; 13]) -> Settings {
-    Settings {
+// A row of the table: what line 1 charges, and the twelve settings in order.
+fn given(row: &[i64; 13]) -> (u64, Settings) {
+    let [
+        charge,
+        life_premium,
+        last_life_premium,
+        life_estimate,
+        life_without_risk,
+        non_life_premium,
+        last_non_life_premium,
+        non_life_estimate,
+        tax_rate,
+        carry_back_refund,
+        profit,
+        net_deferred_tax,
+        management_deduction,
+    ] = *row;
+    let settings = Settings {
         life: Business {
-            premium: given[1],
-            last_premium: given[2],
-            estimate: given[3],
+            premium: life_premium,
+            last_premium: last_life_premium,
+            estimate: life_estimate,
         },
-        life_without_risk: given[4],
+        life_without_risk,
         non_life: Business {
-            premium: given[5],
-            last_premium: given[6],
-            estimate: given[7],
+            premium: non_life_premium,
+            last_premium: last_non_life_premium,
+            estimate: non_life_estimate,
         },
-        tax_rate: given[8],
-        carry_back_refund: given[9],
-        profit: given[10],
-        net_deferred_tax: given[11],
-        management_deduction: given[12],
-    }
+        tax_rate,
+        carry_back_refund,
+        profit,
+        net_deferred_tax,
+        management_deduction,
+    };
+    (charge.unsigned_abs(), settings)
 }
 
-// Line 1 charges what stands first.
-fn answer_to(given: &[i64; 13]) -> Result<Required, Refusal> {
+fn answer_to(charge: u64, settings: &Settings) -> Result<Required, Refusal> {
     let mut sheet = Sheet::new();
-    sheet.set_total(1, given[0].unsigned_abs().saturating_mul(10_000))?;
-    required_capital(&Line::new(1)?, &sheet, &settings_of(given))
+    sheet.set_total(1, charge.saturating_mul(10_000))?;
+    required_capital(&Line::new(1)?, &sheet, settings)
 }
 
 #[test]
 fn answered(rt: HostRuntime) -> Result<(), Fail> {
-    for (given, [operational, tax_effect, required]) in ANSWERED.iter() {
-        let answer = answer_to(given)?;
-        assert_eq!(rt; answer.charge, given[0].unsigned_abs());
-        assert_eq!(rt; answer.operational, *operational);
-        assert_eq!(rt; answer.tax_effect, *tax_effect);
-        assert_eq!(rt; answer.required, *required);
-        assert_eq!(rt; answer.roundings, 1);
+    for (row, [operational, tax_effect, required]) in ANSWERED.iter() {
+        let (charge, settings) = given(row);
+        let expected = Required {
+            charge,
+            operational: *operational,
+            tax_effect: *tax_effect,
+            required: *required,
+            roundings: 1,
+        };
+        assert_eq!(rt; answer_to(charge, &settings)?, expected);
     }
     Ok(())
 }
 
 #[test]
 fn refused(rt: HostRuntime) -> Result<(), Fail> {
-    for (given, number) in REFUSED.iter() {
-        match answer_to(given) {
-            Ok(_) => return Err(Fail::new("it was answered")),
-            Err(refusal) => assert_eq!(rt; refusal.number(), *number),
-        }
+    for (row, number) in REFUSED.iter() {
+        let (charge, settings) = given(row);
+        let refused = answer_to(charge, &settings).map_err(|refusal| refusal.number());
+        assert_eq!(rt; refused, Err(*number));
     }
     Ok(())
 }

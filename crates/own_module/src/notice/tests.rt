@@ -8,8 +8,8 @@ use std::test::Fail;
 fn sheet_of(uncapped: i64, capped: [u64; 6]) -> Result<Sheet, Refusal> {
     let mut sheet = Sheet::new();
     sheet.set_uncapped(uncapped);
-    for (i, total) in capped.iter().enumerate() {
-        sheet.set_capped(i + 2, *total)?;
+    for (bin, total) in (2..=7).zip(capped) {
+        sheet.set_capped(bin, total)?;
     }
     Ok(sheet)
 }
