@@ -4,7 +4,7 @@ use Rattle.std.proofs.lemmas.Fmt.{decimal_nonempty, digits_decimal}
 use Rattle.std.proofs.ByRecursion.{All-append, All-weaker}
 use Rattle.std.proofs.lemmas.Str.Parse.{tells_all_ascii_digits}
 use Rattle.digits.proofs.Decimals.{own, number_decimal}
-use Rattle.std.proofs.lemmas.Bool.{cond-true, cond-false, or_from, ne_eqb}
+use Rattle.std.proofs.lemmas.Bool.{cond-true, or_from, ne_eqb}
 use Rattle.std.specs.declared.alloc.Global.{Global}
 use Rattle.std.proofs.lemmas.List.{take_all}
 use Rattle.std.proofs.lemmas.List.Elements.{All-from_recursion}

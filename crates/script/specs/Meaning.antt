@@ -87,11 +87,6 @@ said (Root ns) = root (vec_items ns)
 said (Total line amount) = total line amount
 said PriceStandard = price_standard
 
--- the same of one line, which may be misread
-abbrev pub outcome : Result Statement Misread → Result Said Misread
-outcome (Ok s) = Ok (said s)
-outcome (Err m) = Err m
-
 -- what is read is what is said, as v has it, unless memory ran out
 abbrev pub Reads : {A B : Type 0} → (A → B) → Result B Misread → Result A Unread → Type 0
 Reads v told (Ok x) = told ≡ Ok (v x)

@@ -5,7 +5,7 @@ mod numbers;
 mod words;
 
 ghost use Rattle.std.specs.Prelude.{◌≡◌, map, Some};
-ghost use Rattle.script.specs.Meaning.{table_of, root_of, total_of, price_of, statement_of, lines_from, said, outcome, Reads, fault_on, Tells, Parsed};
+ghost use Rattle.script.specs.Meaning.{table_of, root_of, total_of, price_of, statement_of, lines_from, said, Reads, fault_on, Tells, Parsed};
 ghost use Rattle.script.specs.Numbers.{numbers_of};
 ghost use Rattle.script.specs.Plain.{ReadBack};
 ghost use Rattle.script.specs.Shown.{misread_text, fault_text};
@@ -14,6 +14,7 @@ ghost use Rattle.script.specs.declared.Unread.TheVariants as unread;
 
 use numbers::{number, numbers};
 use std::alloc::{AllocError, AllocFailed, Global};
+use std::error::Error;
 use std::fmt;
 use words::{content, lines, words};
 
@@ -74,6 +75,8 @@ impl fmt::Display for Fault {
         }
     }
 }
+
+impl Error for Fault {}
 
 impl From<AllocError> for Fault {
     ghost from_gives = { λ _ r. r ≡ Memory };
@@ -143,6 +146,7 @@ pub fn parse(heap: Global, text: &[u8]) -> Result<Vec<Statement>, Fault>
     parse_lines(heap, lines.as_slice())
 }
 
+// The statements of lines, or the first line that is misread.
 fn parse_lines(heap: Global, lines: &[&[u8]]) -> Result<Vec<Statement>, Fault>
     ensures { Tells (lines_from 1 (map (λ l. l.now) lines.now)) result }
 {
@@ -169,7 +173,7 @@ impl Statement {
             b"table" => Statement::table(heap, parts),
             b"root" => Statement::root(heap, parts),
             b"total" => Statement::total(heap, parts),
-            b"price" => Ok(Statement::price(parts)?),
+            b"price" => Statement::price(parts),
             _ => Err(Unread::Misread(Misread::UnknownStatement)),
         }
     }
@@ -207,12 +211,12 @@ impl Statement {
     }
 
     // The price by the tree that the only word names.
-    fn price(parts: &[&[u8]]) -> Result<Statement, Misread>
-        ensures { outcome result ≡ price_of (map (λ w. w.now) parts.now) }
+    fn price(parts: &[&[u8]]) -> Result<Statement, Unread>
+        ensures { Reads said (price_of (map (λ w. w.now) parts.now)) result }
     {
         match parts {
             [tree] if *tree == b"standard".as_slice() => Ok(Statement::PriceStandard),
-            _ => Err(Misread::UnknownTree),
+            _ => Err(Unread::Misread(Misread::UnknownTree)),
         }
     }
 }
