@@ -4,7 +4,6 @@
 ghost use Rattle.std.specs.Prelude.{◌≡◌, MatchResult};
 ghost use Rattle.std.specs.Process.{exit_status};
 
-use anyhow::anyhow;
 use session::answers;
 use std::io::Read;
 use std::process::ExitCode;
@@ -27,15 +26,11 @@ fn input(rt: &HostRuntime) -> anyhow::Result<Vec<u8>> {
 // Prints a line of answer for each statement, once every line is understood.
 fn respond(rt: &HostRuntime) -> anyhow::Result<()> {
     let text = input(rt)?;
-    match answers(rt.alloc(), text.as_slice()) {
-        Ok(all) => {
-            for answer in all.iter() {
-                rt.println(answer)?;
-            }
-            Ok(())
-        }
-        Err(fault) => Err(anyhow!(format!(in rt.alloc(); "{fault}")?)),
+    let answers = answers(rt.alloc(), text.as_slice())?;
+    for answer in &answers {
+        rt.println(answer)?;
     }
+    Ok(())
 }
 
 // The whole program: what goes wrong is told on standard error, and handed on.

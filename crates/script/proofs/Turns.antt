@@ -1,12 +1,13 @@
 -- Statements that were read, before what the lines still to come say.
-use Rattle.std.proofs.Common.{◌≡◌, ℕ, ◌+◌, ◌<◌, List, [], ◌∷◌, ◌++◌, map, length, Ok, Err, Result, sym, refl, ap, ◌∙◌, append_assoc}
-use Rattle.std.proofs.lemmas.List.{map_push}
+use Rattle.std.proofs.Common.{◌≡◌, ℕ, ◌+◌, ◌<◌, ◌≤◌, List, [], ◌∷◌, ◌++◌, map, length, get_or, drop, Ok, Err, subst, sym, refl, ap, ◌∙◌, append_assoc, append-nil, Bor}
+use Rattle.std.proofs.lemmas.List.{at_drop_more, at_drop_all, map_push}
+use Rattle.script.specs.declared.Fault.{Fault}
 use Rattle.script.specs.declared.Misread.{Misread}
+use Rattle.script.specs.declared.Unread.{Unread}
+use Rattle.script.specs.declared.Unread.TheVariants as unread
 use Rattle.script.specs.declared.Statement.{Statement}
-use Rattle.script.specs.declared.words.Mark.TheVariants.{LineEnd, Comment}
-use Rattle.script.specs.Meaning.{Said, Told, statement_of, above, line_above, lines_from, said, outcome}
-use Rattle.script.specs.Pieces.{before, beyond, lines, words}
-use Rattle.script.proofs.Cuts.{shorter, parted}
+use Rattle.script.specs.Meaning.{Said, Told, statement_of, above, line_above, lines_from, said, Reads, fault_on, Tells}
+use Rattle.script.specs.Pieces.{before_comment, words_of}
 
 -- ss, and behind them what is told of the lines to come
 abbrev pub then : List Said → Told → Told
@@ -17,38 +18,37 @@ then_more : (ss : List Said) (n : ℕ) (s : Said) (rest : Told) → then ss (abo
 then_more ss n s (Ok rest) = ap Ok (sym (append_assoc ss (s ∷ []) rest))
 then_more ss n s (Err e) = refl
 
--- a text's first line, its content, and the lines below it
-pub record Turn (left front rest content : List ℕ) : Type 0 where
-  pub some : 0 < length left
-  pub is_front : front ≡ before LineEnd left
-  pub is_rest : rest ≡ beyond LineEnd left
-  pub is_content : content ≡ before Comment front
+-- what borrowed lines say that are counted from n
+abbrev pub told_from : ℕ → List (Bor (List ℕ)) → Told
+told_from n ls = lines_from n (map (λ l. l.now) ls)
 
-pub less : {left front rest content : List ℕ} → Turn left front rest content → length rest < length left
-less t = shorter LineEnd _ _ t.some t.is_rest
+-- the line at i, with its words
+module _ (ls : List (Bor (List ℕ))) (i : ℕ) (d : Bor (List ℕ)) (h : i < length ls) (ws : List (List ℕ)) (is : ws ≡ words_of (before_comment (get_or ls i d).now)) where
+  line_first : told_from (i + 1) (drop i ls) ≡ line_above (i + 1) ws (told_from (i + 1 + 1) (drop (i + 1) ls))
+  line_first = at_drop_more (told_from (i + 1)) ls i d h ∙ ap (λ ws. line_above (i + 1) ws (told_from (i + 1 + 1) (drop (i + 1) ls))) (sym is)
 
-module _ {left front rest content : List ℕ} (t : Turn left front rest content) (n : ℕ) where
-  line_first : lines_from n (lines left) ≡ line_above n (words content) (lines_from (n + 1) (lines rest))
-  line_first =
-      ap (lines_from n) (parted LineEnd left t.some)
-      ∙ ap (λ l. line_above n (words l) (lines_from (n + 1) (lines (beyond LineEnd left)))) (sym (t.is_content ∙ ap (before Comment) t.is_front))
-      ∙ ap (λ l. line_above n (words content) (lines_from (n + 1) (lines l))) (sym t.is_rest)
+  pub passed : (ss : List Said) (all : Told) → ws ≡ [] → then ss (told_from (i + 1) (drop i ls)) ≡ all → then ss (told_from (i + 1 + 1) (drop (i + 1) ls)) ≡ all
+  passed ss all none inv =
+      ap (λ ws. then ss (line_above (i + 1) ws (told_from (i + 1 + 1) (drop (i + 1) ls)))) (sym none) ∙ ap (then ss) (sym line_first) ∙ inv
 
-  pub passed : (ss : List Said) (all : Told) → words content ≡ [] → then ss (lines_from n (lines left)) ≡ all → then ss (lines_from (n + 1) (lines rest)) ≡ all
-  passed ss all none inv = sym (ap (then ss) (line_first ∙ ap (λ ws. line_above n ws (lines_from (n + 1) (lines rest))) none)) ∙ inv
+  module _ (v : List ℕ) (vs : List (List ℕ)) (some : ws ≡ v ∷ vs) where
+    pub stated : (us ts : List Statement) (s : Statement) (all : Told) → statement_of v vs ≡ Ok (said s) → ts ≡ us ++ s ∷ [] → then (map said us) (told_from (i + 1) (drop i ls)) ≡ all → then (map said ts) (told_from (i + 1 + 1) (drop (i + 1) ls)) ≡ all
+    stated us ts s all read pushed inv =
+        let rest = told_from (i + 1 + 1) (drop (i + 1) ls) in
+        ap (λ l. then l rest) (ap (map said) pushed ∙ map_push said us s)
+        ∙ sym (then_more (map said us) (i + 1) (said s) rest)
+        ∙ ap (λ r. then (map said us) (above (i + 1) r rest)) (sym read)
+        ∙ ap (λ ws. then (map said us) (line_above (i + 1) ws rest)) (sym some)
+        ∙ ap (then (map said us)) (sym line_first) ∙ inv
 
-  module _ (w : List ℕ) (ws : List (List ℕ)) (first : words content ≡ w ∷ ws) where
-    -- the line's reading is o
-    module _ (o : Result Statement Misread) (is : outcome o ≡ statement_of w ws) where
-      told_first : (p : Result Statement Misread) → o ≡ p → lines_from n (lines left) ≡ above n (outcome p) (lines_from (n + 1) (lines rest))
-      told_first p e =
-          line_first ∙ ap (λ vs. line_above n vs (lines_from (n + 1) (lines rest))) first
-          ∙ ap (λ q. above n q (lines_from (n + 1) (lines rest))) (sym is ∙ ap outcome e)
+    misread : (ss : List Said) (m : Misread) (all : Told) → statement_of v vs ≡ Err m → then ss (told_from (i + 1) (drop i ls)) ≡ all → all ≡ Err (i + 1, m)
+    misread ss m all read inv =
+        let rest = told_from (i + 1 + 1) (drop (i + 1) ls) in
+        sym inv ∙ ap (then ss) line_first ∙ ap (λ ws. then ss (line_above (i + 1) ws rest)) some ∙ ap (λ r. then ss (above (i + 1) r rest)) read
 
-      pub stated : (xs ys : List Statement) (x : Statement) (all : Told) → o ≡ Ok x → ys ≡ xs ++ x ∷ [] → then (map said xs) (lines_from n (lines left)) ≡ all → then (map said ys) (lines_from (n + 1) (lines rest)) ≡ all
-      stated xs ys x all e pushed inv =
-          ap (λ l. then l (lines_from (n + 1) (lines rest))) (ap (map said) pushed ∙ map_push said xs x)
-          ∙ sym (then_more (map said xs) n (said x) (lines_from (n + 1) (lines rest))) ∙ sym (ap (then (map said xs)) (told_first (Ok x) e)) ∙ inv
+    pub unread_line : (ss : List Said) (u : Unread) (f : Fault) (all : Told) → Reads said (statement_of v vs) (Err u) → f ≡ fault_on (i + 1) u → then ss (told_from (i + 1) (drop i ls)) ≡ all → Tells all (Err f)
+    unread_line ss unread.Memory f all read is inv = subst (λ f. Tells all (Err f)) (sym is) tt
+    unread_line ss (unread.Misread m) f all read is inv = subst (λ f. Tells all (Err f)) (sym is) (misread ss m all read inv)
 
-      pub misread : (ss : List Said) (m : Misread) (all : Told) → o ≡ Err m → then ss (lines_from n (lines left)) ≡ all → all ≡ Err (n, m)
-      misread ss m all e inv = sym inv ∙ ap (then ss) (told_first (Err m) e)
+pub all_read : (ls : List (Bor (List ℕ))) (i : ℕ) (ss : List Said) (all : Told) → length ls ≤ i → then ss (told_from (i + 1) (drop i ls)) ≡ all → all ≡ Ok ss
+all_read ls i ss all h inv = sym inv ∙ ap (then ss) (at_drop_all (told_from (i + 1)) ls i h) ∙ ap Ok (append-nil ss)

@@ -8,9 +8,10 @@ use Rattle.script.specs.declared.Misread.{Misread}
 use Rattle.script.specs.declared.Misread.TheVariants.{UnknownStatement, SizeMissing, NotANumber, TotalParts, UnknownTree}
 use Rattle.script.specs.declared.Statement.{Statement}
 use Rattle.script.specs.declared.Statement.TheVariants.{Table, Root, Total, PriceStandard}
-use Rattle.script.specs.declared.words.Mark.TheVariants.{Comment}
+use Rattle.script.specs.declared.Unread.{Unread}
+use Rattle.script.specs.declared.Unread.TheVariants as unread
 use Rattle.script.specs.Numbers.{numbers_of}
-use Rattle.script.specs.Pieces.{before, lines, words}
+use Rattle.script.specs.Pieces.{before_comment, lines_of, words_of}
 
 -- what a statement says: a table's size and entries, the charges of the root, a total's line and amount, or that the price is by the standard tree
 pub data Said : Type 0 where
@@ -73,11 +74,11 @@ line_above n (w ∷ ws) rest = above n (statement_of w ws) rest
 -- what lines say that are counted from n; what follows `#` on a line is passed over
 abbrev pub lines_from : ℕ → List (List ℕ) → Told
 lines_from n [] = Ok []
-lines_from n (l ∷ ls) = line_above n (words (before Comment l)) (lines_from (n + 1) ls)
+lines_from n (l ∷ ls) = line_above n (words_of (before_comment l)) (lines_from (n + 1) ls)
 
 -- what a text says, its lines counted from 1
 abbrev pub meaning : List ℕ → Told
-meaning text = lines_from 1 (lines text)
+meaning text = lines_from 1 (lines_of text)
 
 -- what a parsed statement says
 abbrev pub said : Statement → Said
@@ -86,13 +87,23 @@ said (Root ns) = root (vec_items ns)
 said (Total line amount) = total line amount
 said PriceStandard = price_standard
 
--- the same of one line, which may be misread
-abbrev pub outcome : Result Statement Misread → Result Said Misread
-outcome (Ok s) = Ok (said s)
-outcome (Err m) = Err m
+-- what is read is what is said, as v has it, unless memory ran out
+abbrev pub Reads : {A B : Type 0} → (A → B) → Result B Misread → Result A Unread → Type 0
+Reads v told (Ok x) = told ≡ Ok (v x)
+Reads v told (Err unread.Memory) = Unit {0}
+Reads v told (Err (unread.Misread m)) = told ≡ Err m
+
+-- the fault of a text whose line n gives no statement
+abbrev pub fault_on : ℕ → Unread → Fault
+fault_on n unread.Memory = Memory
+fault_on n (unread.Misread m) = Line n m
+
+-- what is parsed is what is told, unless memory ran out
+abbrev pub Tells : Told → Result (Vec Statement Global) Fault → Type 0
+Tells told (Ok ss) = told ≡ Ok (map said (vec_items ss))
+Tells told (Err Memory) = Unit {0}
+Tells told (Err (Line n m)) = told ≡ Err (n, m)
 
 -- what is parsed of a text is its meaning, unless memory ran out
 abbrev pub Parsed : List ℕ → Result (Vec Statement Global) Fault → Type 0
-Parsed text (Ok ss) = meaning text ≡ Ok (map said (vec_items ss))
-Parsed text (Err Memory) = Unit {0}
-Parsed text (Err (Line n m)) = meaning text ≡ Err (n, m)
+Parsed text r = Tells (meaning text) r

@@ -1,44 +1,23 @@
 -- How a text is cut: into lines, and a line into words.
-use Rattle.std.specs.Prelude.{ℕ, Bool, cond, ◌||◌, List, [], ◌∷◌, ◌==◌}
-use Rattle.script.specs.declared.words.Mark.{Mark}
-use Rattle.script.specs.declared.words.Mark.TheVariants.{LineEnd, Comment, Space}
+use Rattle.std.specs.Prelude.{ℕ, Bool, not, ◌||◌, List, length, ◌==◌}
+use Rattle.std.specs.List.{slice_split, before_first, filter}
 
--- which bytes a mark stands for: the line feed; `#`; the space, the tab and the carriage return
-abbrev pub is_mark_byte : Mark → ℕ → Bool
-is_mark_byte LineEnd b = b == 10
-is_mark_byte Comment b = b == 35
-is_mark_byte Space b = b == 32 || (b == 9 || b == 13)
+-- a line ends at a line feed, which is not part of it; what is behind the last line feed is a line too, with or without a byte
+abbrev pub lines_of : List ℕ → List (List ℕ)
+lines_of text = slice_split (λ b. b == 10) text
 
--- what stands before the first mark; all of the text where there is none
-abbrev pub before : Mark → List ℕ → List ℕ
-before m [] = []
-before m (b ∷ bs) = cond (is_mark_byte m b) [] (b ∷ before m bs)
+-- what stands before the first `#` of a line; all of it where there is none
+abbrev pub before_comment : List ℕ → List ℕ
+before_comment line = before_first (λ b. b == 35) line
 
--- what stands behind the first mark; nothing where there is none
-abbrev pub beyond : Mark → List ℕ → List ℕ
-beyond m [] = []
-beyond m (b ∷ bs) = cond (is_mark_byte m b) bs (beyond m bs)
+-- the space, the tab and the carriage return
+abbrev pub is_space : ℕ → Bool
+is_space b = b == 32 || (b == 9 || b == 13)
 
--- a byte put at the front of the first piece
-abbrev pub joins : ℕ → List (List ℕ) → List (List ℕ)
-joins b [] = (b ∷ []) ∷ []
-joins b (p ∷ ps) = (b ∷ p) ∷ ps
-
--- the pieces of a text: each ends at a mark, which is not part of it, and the last may lack its mark
-abbrev pub pieces : Mark → List ℕ → List (List ℕ)
-pieces m [] = []
-pieces m (b ∷ bs) = cond (is_mark_byte m b) ([] ∷ pieces m bs) (joins b (pieces m bs))
-
--- the pieces that hold something
-abbrev pub filled : List (List ℕ) → List (List ℕ)
-filled [] = []
-filled ([] ∷ ps) = filled ps
-filled ((b ∷ bs) ∷ ps) = (b ∷ bs) ∷ filled ps
-
--- a line ends at a line feed, which the last may lack
-abbrev pub lines : List ℕ → List (List ℕ)
-lines text = pieces LineEnd text
+-- whether a piece holds something
+abbrev pub holds_some : List ℕ → Bool
+holds_some piece = not (length piece == 0)
 
 -- one space or more parts two words
-abbrev pub words : List ℕ → List (List ℕ)
-words line = filled (pieces Space line)
+abbrev pub words_of : List ℕ → List (List ℕ)
+words_of line = filter holds_some (slice_split is_space line)

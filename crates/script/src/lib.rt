@@ -4,18 +4,19 @@
 mod numbers;
 mod words;
 
-ghost use Rattle.std.specs.Prelude.{◌≡◌, IfOk, Some};
-ghost use Rattle.script.specs.Meaning.{table_of, root_of, total_of, price_of, statement_of, outcome, Parsed};
+ghost use Rattle.std.specs.Prelude.{◌≡◌, map, Some};
+ghost use Rattle.script.specs.Meaning.{table_of, root_of, total_of, price_of, statement_of, lines_from, said, Reads, fault_on, Tells, Parsed};
 ghost use Rattle.script.specs.Numbers.{numbers_of};
-ghost use Rattle.script.specs.Pieces.{words};
 ghost use Rattle.script.specs.Plain.{ReadBack};
 ghost use Rattle.script.specs.Shown.{misread_text, fault_text};
 ghost use Rattle.script.specs.declared.Fault.TheVariants.{Memory};
+ghost use Rattle.script.specs.declared.Unread.TheVariants as unread;
 
 use numbers::{number, numbers};
 use std::alloc::{AllocError, AllocFailed, Global};
+use std::error::Error;
 use std::fmt;
-use words::{Mark, cut, next_word};
+use words::{content, lines, words};
 
 #[derive(Drop, Debug)]
 pub enum Statement {
@@ -75,6 +76,8 @@ impl fmt::Display for Fault {
     }
 }
 
+impl Error for Fault {}
+
 impl From<AllocError> for Fault {
     ghost from_gives = { λ _ r. r ≡ Memory };
 
@@ -91,104 +94,129 @@ impl<T: Drop> From<AllocFailed<T>> for Fault {
     }
 }
 
+// Why a line gives no statement.
+#[derive(Clone, Copy)]
+enum Unread {
+    Memory,
+    Misread(Misread),
+}
+
+impl Unread {
+    // The fault of the text, where its line of this number gives no statement.
+    fn on_line(self, line: usize) -> Fault
+        ensures { result ≡ fault_on line self }
+    {
+        match self {
+            Unread::Memory => Fault::Memory,
+            Unread::Misread(misread) => Fault::Line(line, misread),
+        }
+    }
+}
+
+impl From<AllocError> for Unread {
+    ghost from_gives = { λ _ r. r ≡ unread.Memory };
+
+    fn from(_e: AllocError) -> Unread {
+        Unread::Memory
+    }
+}
+
+impl<T: Drop> From<AllocFailed<T>> for Unread {
+    ghost from_gives = { λ _ r. r ≡ unread.Memory };
+
+    fn from(_e: AllocFailed<T>) -> Unread {
+        Unread::Memory
+    }
+}
+
+impl From<Misread> for Unread {
+    ghost from_gives = { λ m r. r ≡ unread.Misread m };
+
+    fn from(misread: Misread) -> Unread {
+        Unread::Misread(misread)
+    }
+}
+
 // The statements of a text, or its first line that is misread.
 pub fn parse(heap: Global, text: &[u8]) -> Result<Vec<Statement>, Fault>
     ensures meaning { Parsed text.now result }
     ensures back { ReadBack text.now result }
 {
+    let lines = lines(heap, text)?;
+    parse_lines(heap, lines.as_slice())
+}
+
+// The statements of lines, or the first line that is misread.
+fn parse_lines(heap: Global, lines: &[&[u8]]) -> Result<Vec<Statement>, Fault>
+    ensures { Tells (lines_from 1 (map (λ l. l.now) lines.now)) result }
+{
     let mut statements = Vec::new(heap);
-    let mut left = text;
-    let mut line: usize = 0;
-    while !left.is_empty() {
-        let (front, rest) = cut(left, Mark::LineEnd);
-        left = rest;
-        line += 1;
-        let (content, _) = cut(front, Mark::Comment);
-        let Some((word, behind)) = next_word(content) else {
+    for (above, line) in lines.iter().enumerate() {
+        let words = words(heap, content(line))?;
+        let Some((word, parts)) = words.as_slice().split_first() else {
             continue;
         };
-        match Statement::read(heap, word, behind)? {
+        match Statement::read(heap, word, parts) {
             Ok(statement) => statements.push(statement)?,
-            Err(misread) => return Err(Fault::Line(line, misread)),
+            Err(unread) => return Err(unread.on_line(above + 1)),
         }
     }
     Ok(statements)
 }
 
-// A line's statement, or how the line is misread.
-type Reading = Result<Statement, Misread>;
-
 impl Statement {
-    // The statement of a line, by its first word and the text behind that.
-    fn read(heap: Global, word: &[u8], text: &[u8]) -> Result<Reading, AllocError>
-        ensures { IfOk result (λ s. outcome s ≡ statement_of word.now (words text.now)) }
+    // The statement of a line, by its first word and the words behind that.
+    fn read(heap: Global, word: &[u8], parts: &[&[u8]]) -> Result<Statement, Unread>
+        ensures { Reads said (statement_of word.now (map (λ w. w.now) parts.now)) result }
     {
-        if word == b"table".as_slice() {
-            Statement::table(heap, text)
-        } else if word == b"root".as_slice() {
-            Statement::root(heap, text)
-        } else if word == b"total".as_slice() {
-            Statement::total(heap, text)
-        } else if word == b"price".as_slice() {
-            Ok(Statement::price(text))
-        } else {
-            Ok(Err(Misread::UnknownStatement))
+        match word {
+            b"table" => Statement::table(heap, parts),
+            b"root" => Statement::root(heap, parts),
+            b"total" => Statement::total(heap, parts),
+            b"price" => Statement::price(parts),
+            _ => Err(Unread::Misread(Misread::UnknownStatement)),
         }
     }
 
-    // The table whose size and entries are the numbers of a text.
-    fn table(heap: Global, text: &[u8]) -> Result<Reading, AllocError>
-        ensures { IfOk result (λ s. outcome s ≡ table_of (numbers_of (words text.now))) }
+    // The table whose size is the first of some numbers, and whose entries are the others.
+    fn table(heap: Global, parts: &[&[u8]]) -> Result<Statement, Unread>
+        ensures { Reads said (table_of (numbers_of (map (λ w. w.now) parts.now))) result }
     {
-        let Some((word, rest)) = next_word(text) else {
-            return Ok(Err(Misread::SizeMissing));
-        };
-        let Some(size) = number(word) else {
-            return Ok(Err(Misread::NotANumber));
-        };
-        let Some(entries) = numbers(heap, rest)? else {
-            return Ok(Err(Misread::NotANumber));
-        };
-        Ok(Ok(Statement::Table { size, entries }))
+        let (size, entries) = parts.split_first().ok_or(Misread::SizeMissing)?;
+        let size = number(size)?;
+        let entries = numbers(heap, entries)?;
+        Ok(Statement::Table { size, entries })
     }
 
-    // The root whose charges are the numbers of a text.
-    fn root(heap: Global, text: &[u8]) -> Result<Reading, AllocError>
-        ensures { IfOk result (λ s. outcome s ≡ root_of (numbers_of (words text.now))) }
+    // The root whose charges are some numbers.
+    fn root(heap: Global, parts: &[&[u8]]) -> Result<Statement, Unread>
+        ensures { Reads said (root_of (numbers_of (map (λ w. w.now) parts.now))) result }
     {
-        let Some(charges) = numbers(heap, text)? else {
-            return Ok(Err(Misread::NotANumber));
-        };
-        Ok(Ok(Statement::Root { charges }))
+        let charges = numbers(heap, parts)?;
+        Ok(Statement::Root { charges })
     }
 
-    // The total whose line and amount are the two numbers of a text.
-    fn total(heap: Global, text: &[u8]) -> Result<Reading, AllocError>
-        ensures { IfOk result (λ s. outcome s ≡ total_of (numbers_of (words text.now))) }
+    // The total whose line and amount are two numbers.
+    fn total(heap: Global, parts: &[&[u8]]) -> Result<Statement, Unread>
+        ensures { Reads said (total_of (numbers_of (map (λ w. w.now) parts.now))) result }
     {
-        let Some(parts) = numbers(heap, text)? else {
-            return Ok(Err(Misread::NotANumber));
+        let numbers = numbers(heap, parts)?;
+        let [line, amount] = numbers.as_slice() else {
+            return Err(Unread::Misread(Misread::TotalParts));
         };
-        let [line, amount] = parts.as_slice() else {
-            return Ok(Err(Misread::TotalParts));
-        };
-        Ok(Ok(Statement::Total {
+        Ok(Statement::Total {
             line: *line,
             amount: *amount,
-        }))
+        })
     }
 
-    // The price by the tree that the only word of a text names.
-    fn price(text: &[u8]) -> Reading
-        ensures { outcome result ≡ price_of (words text.now) }
+    // The price by the tree that the only word names.
+    fn price(parts: &[&[u8]]) -> Result<Statement, Unread>
+        ensures { Reads said (price_of (map (λ w. w.now) parts.now)) result }
     {
-        let Some((tree, rest)) = next_word(text) else {
-            return Err(Misread::UnknownTree);
-        };
-        if tree == b"standard".as_slice() && next_word(rest).is_none() {
-            Ok(Statement::PriceStandard)
-        } else {
-            Err(Misread::UnknownTree)
+        match parts {
+            [tree] if *tree == b"standard".as_slice() => Ok(Statement::PriceStandard),
+            _ => Err(Unread::Misread(Misread::UnknownTree)),
         }
     }
 }
@@ -209,14 +237,12 @@ mod tests {
 
     // The text is misread, and the fault prints so.
     fn fails(rt: &impl Abort, heap: Global, text: &[u8], shown: &str) -> Result<(), Fail> {
-        match parse(heap, text) {
-            Ok(_) => Err(Fail::new("it was read")),
-            Err(fault) => {
-                let printed = format!(in heap; "{fault}")?;
-                assert_eq!(rt; printed.as_str(), shown);
-                Ok(())
-            }
-        }
+        let Err(fault) = parse(heap, text) else {
+            return Err(Fail::new("it was read"));
+        };
+        let printed = format!(in heap; "{fault}")?;
+        assert_eq!(rt; printed.as_str(), shown);
+        Ok(())
     }
 
     #[test]

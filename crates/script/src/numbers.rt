@@ -1,31 +1,27 @@
 // Reads words as numbers.
-ghost use Rattle.std.specs.Prelude.{◌≡◌, IfOk, vec_items};
+ghost use Rattle.std.specs.Prelude.{◌≡◌, map, vec_items};
+ghost use Rattle.std.specs.Option.{ok_or};
+ghost use Rattle.script.specs.Meaning.{Reads};
 ghost use Rattle.script.specs.Numbers.{number_of, numbers_of};
-ghost use Rattle.script.specs.Pieces.{words};
-ghost use Rattle.std.specs.Option.{option_map};
+ghost use Rattle.script.specs.declared.Misread.TheVariants.{NotANumber};
 
-use crate::words::next_word;
-use std::alloc::{AllocError, Global};
+use crate::{Misread, Unread};
+use std::alloc::Global;
 
 // The number that a word stands for, where it stands for one.
-pub fn number(word: &[u8]) -> Option<u64>
-    ensures { result ≡ number_of word.now }
+pub fn number(word: &[u8]) -> Result<u64, Misread>
+    ensures { result ≡ ok_or (number_of word.now) NotANumber }
 {
-    digits::number(word, u64::MAX)
+    digits::number(word, u64::MAX).ok_or(Misread::NotANumber)
 }
 
-// The numbers that the words of a text stand for, where each stands for one.
-pub fn numbers(heap: Global, text: &[u8]) -> Result<Option<Vec<u64>>, AllocError>
-    ensures { IfOk result (λ v. option_map vec_items v ≡ numbers_of (words text.now)) }
+// The numbers that words stand for, where each stands for one.
+pub fn numbers(heap: Global, words: &[&[u8]]) -> Result<Vec<u64>, Unread>
+    ensures { Reads vec_items (ok_or (numbers_of (map (λ w. w.now) words.now)) NotANumber) result }
 {
-    let mut all = Vec::new(heap);
-    let mut left = text;
-    while let Some((word, rest)) = next_word(left) {
-        let Some(n) = number(word) else {
-            return Ok(None);
-        };
-        all.push(n)?;
-        left = rest;
+    let mut numbers = Vec::new(heap);
+    for word in words {
+        numbers.push(number(word)?)?;
     }
-    Ok(Some(all))
+    Ok(numbers)
 }

@@ -1,50 +1,35 @@
-// Cuts a text at its marks: into lines, and a line into words.
-ghost use Rattle.std.specs.Prelude.{◌≡◌, ◌<◌, [], ◌∷◌, length, MatchOption};
-ghost use Rattle.script.specs.Pieces.{is_mark_byte, before, beyond, words};
+// Cuts a text into lines, and a line into words.
+ghost use Rattle.std.specs.Prelude.{◌≡◌, map, IfOk};
+ghost use Rattle.script.specs.Pieces.{is_space, before_comment, lines_of, words_of};
 
-#[derive(Clone, Copy)]
-pub enum Mark {
-    LineEnd,
-    Comment,
-    Space,
-}
+use std::alloc::{AllocError, Global};
 
-impl Mark {
-    pub fn is(self, b: u8) -> bool
-        ensures { result ≡ is_mark_byte self b }
-    {
-        match self {
-            Mark::LineEnd => b == b'\n',
-            Mark::Comment => b == b'#',
-            Mark::Space => b == b' ' || b == b'\t' || b == b'\r',
-        }
-    }
-}
-
-// What stands before the first mark, and what stands behind it.
-pub fn cut(text: &[u8], mark: Mark) -> (&[u8], &[u8])
-    ensures front { result.0.now ≡ before mark text.now }
-    ensures back { result.1.now ≡ beyond mark text.now }
+// The lines of a text; what is behind its last line feed is one too.
+pub fn lines(heap: Global, text: &[u8]) -> Result<Vec<&[u8]>, AllocError>
+    ensures { IfOk result (λ v. map (λ l. l.now) v.items ≡ lines_of text.now) }
 {
-    for (i, b) in text.iter().enumerate() {
-        if mark.is(*b) {
-            return (&text[0..i], &text[i + 1..]);
-        }
-    }
-    (text, &[])
+    text.split(|b| *b == b'\n').collect(heap)
 }
 
-// The first word, and what stands behind it.
-pub fn next_word(text: &[u8]) -> Option<(&[u8], &[u8])>
-    ensures { MatchOption result (words text.now ≡ []) (λ p. (words text.now ≡ p.0.now ∷ words p.1.now) × (length p.1.now < length text.now)) }
+// What stands before the first `#` of a line.
+pub fn content(line: &[u8]) -> &[u8]
+    ensures { result.now ≡ before_comment line.now }
 {
-    let mut left = text;
-    while !left.is_empty() {
-        let (word, rest) = cut(left, Mark::Space);
-        if !word.is_empty() {
-            return Some((word, rest));
-        }
-        left = rest;
-    }
-    None
+    let end = line.iter().position(|b| *b == b'#').unwrap_or(line.len());
+    &line[..end]
+}
+
+fn is_space(b: u8) -> bool
+    ensures { result ≡ is_space b }
+{
+    b == b' ' || b == b'\t' || b == b'\r'
+}
+
+// The words of a line.
+pub fn words(heap: Global, line: &[u8]) -> Result<Vec<&[u8]>, AllocError>
+    ensures { IfOk result (λ v. map (λ w. w.now) v.items ≡ words_of line.now) }
+{
+    line.split(|b| is_space(*b))
+        .filter(|word| !word.is_empty())
+        .collect(heap)
 }

@@ -6,6 +6,6 @@ mod price;
 mod run;
 mod state;
 
-pub use answer::Answer;
+pub use answer::{Answer, Declined, LineTotal};
 pub use run::answers;
 pub use state::State;

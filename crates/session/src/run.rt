@@ -3,16 +3,13 @@ ghost use Rattle.std.specs.Prelude.{◌≡◌, map, IfOk};
 ghost use Rattle.script.specs.Meaning.{said};
 ghost use Rattle.session.specs.Runs.{Narrowed, TableAnswered, RootAnswered, TotalAnswered, Answered, Started, TextAnswered};
 
-use crate::price::answer_price;
-use crate::{Answer, State};
+use crate::price::price_by_lines;
+use crate::{Answer, Declined, LineTotal, State};
 use correlation::Table;
 use modules::Sheet;
 use refusals::Refusal;
 use script::{Fault, Statement, parse};
 use std::alloc::{AllocError, Global};
-
-// What a charge may be at most.
-const LARGEST: u64 = 0xffff_ffff;
 
 // What the line totals together may be at most, in ten-thousandths of a unit.
 const MOST_TOTAL: u64 = 2_000_000_000_000;
@@ -23,75 +20,82 @@ fn narrowed(heap: Global, numbers: &[u64]) -> Result<Option<Vec<u32>>, AllocErro
 {
     let mut narrow = Vec::new(heap);
     for n in numbers {
-        if *n > LARGEST {
+        let Ok(charge) = u32::try_from(*n) else {
             return Ok(None);
-        }
-        narrow.push(*n as u32)?;
+        };
+        narrow.push(charge)?;
     }
     Ok(Some(narrow))
 }
 
+// Here and below `as usize` stays: a usize has 64 bits, and `try_from` would add a case that never comes.
 // Puts the table of a statement in the place of the one that stands, if it is lawful.
 fn answer_table(
     heap: Global,
     table: &mut Table,
     size: u64,
     entries: &[u64],
-) -> Result<Answer, AllocError>
+) -> Result<Result<u64, Refusal>, AllocError>
     ensures { IfOk result (TableAnswered size entries.now table.old table.new) }
 {
     let Some(narrow) = narrowed(heap, entries)? else {
-        return Ok(Answer::TableRefused(Refusal::TableNotLawful(0)));
+        return Ok(Err(Refusal::TableNotLawful(0)));
     };
     Ok(
-        match table.replace_above(size as usize, narrow.as_slice()) {
-            Ok(()) => Answer::TableStands(size),
-            Err(refusal) => Answer::TableRefused(refusal),
-        },
+        table
+            .replace_above(size as usize, narrow.as_slice())
+            .map(|()| size),
     )
 }
 
 // The root of charges under the table that stands.
-fn answer_root(heap: Global, table: &Table, charges: &[u64]) -> Result<Answer, AllocError>
+fn answer_root(
+    heap: Global,
+    table: &Table,
+    charges: &[u64],
+) -> Result<Result<u64, Declined>, AllocError>
     ensures { IfOk result (RootAnswered charges.now table.now) }
 {
     let Some(narrow) = narrowed(heap, charges)? else {
-        return Ok(Answer::ChargeOutOfRange);
+        return Ok(Err(Declined::OutOfRange));
     };
-    Ok(match table.root(narrow.as_slice()) {
-        Ok(root) => Answer::Root(root),
-        Err(refusal) => Answer::RootRefused(refusal),
-    })
+    Ok(table.root(narrow.as_slice()).map_err(Declined::from))
 }
 
 // Sets the exact total of a line.
-fn answer_total(sheet: &mut Sheet, line: u64, total: u64) -> Answer
+fn answer_total(sheet: &mut Sheet, line: u64, total: u64) -> Result<LineTotal, Declined>
     ensures { TotalAnswered line total sheet.old sheet.new result }
 {
     if total > MOST_TOTAL {
-        return Answer::TotalOutOfRange;
+        return Err(Declined::OutOfRange);
     }
-    match sheet.set_total(line as usize, total) {
-        Ok(()) => Answer::TotalSet(line, total),
-        Err(refusal) => Answer::TotalRefused(refusal),
-    }
+    sheet.set_total(line as usize, total)?;
+    Ok(LineTotal { line, total })
 }
 
 // Answers one statement.
 fn answer_one(heap: Global, state: &mut State, statement: &Statement) -> Result<Answer, AllocError>
     ensures { IfOk result (Answered (said statement.now) state.old state.new) }
 {
-    match statement {
-        Statement::Table { size, entries } => answer_table(
+    Ok(match statement {
+        Statement::Table { size, entries } => Answer::Table(answer_table(
             heap,
             &mut state.table,
             *size,
             entries.as_slice(),
-        ),
-        Statement::Root { charges } => answer_root(heap, &state.table, charges.as_slice()),
-        Statement::Total { line, amount } => Ok(answer_total(&mut state.sheet, *line, *amount)),
-        Statement::PriceStandard => Ok(answer_price(&state.sheet)),
-    }
+        )?),
+        Statement::Root { charges } => Answer::Root(answer_root(
+            heap,
+            &state.table,
+            charges.as_slice(),
+        )?),
+        Statement::Total { line, amount } => Answer::Total(answer_total(
+            &mut state.sheet,
+            *line,
+            *amount,
+        )),
+        Statement::PriceStandard => Answer::Price(price_by_lines(&state.sheet)),
+    })
 }
 
 // Answers statements in order, from a table of one branch and a blank sheet.
