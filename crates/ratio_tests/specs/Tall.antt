@@ -35,7 +35,7 @@ too_many n h = cond-false _ _ _ (lt-leb n 1000 h)
 
 charge_by : {A : Type 0} (b d : Bool) (g : ℕ) (x : A) (y : ℕ) → Ok y ≡ cond b (Ok g) (Err GrossTooLarge) → d ≡ false → cond b (cond d (Ok x) (Err TooManyRoundings)) (Err GrossTooLarge) ≡ Err TooManyRoundings
 charge_by true d g x y e h = cond-false d (Ok x) (Err TooManyRoundings) h
-charge_by false d g x y e h = let z : ◌≡◌ {A = ℕ} 0 1 = cc in absurd (omega arith)
+charge_by false d g x y e h = grind arith
 
 -- a gross that is not refused leaves the roundings
 pub charge_refused : {A : Type 0} (g n : ℕ) (x : A) (y : ℕ) → Ok y ≡ gross_answer g → 1000 < n → answer_of g n x ≡ Err TooManyRoundings
