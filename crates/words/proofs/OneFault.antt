@@ -86,10 +86,10 @@ told {rest = rest} (of_root n es) o = record {
 }
 
 branch_kind : (k v : ℕ) → ValueInRange k v → BranchKind k
-branch_kind k v r = (
-  ⊎_elim (λ a. omega (arith, a.0)) (⊎_elim (λ b. omega (arith, b.0)) (λ c. ⊎_elim (λ e. omega (arith, e)) (λ e. omega (arith, e)) c.0)) r,
-  ⊎_elim (λ a. omega (arith, a.0)) (⊎_elim (λ b. omega (arith, b.0)) (λ c. ⊎_elim (λ e. omega (arith, e)) (λ e. omega (arith, e)) c.0)) r,
-)
+branch_kind k v (inl line) = (omega (arith, line.0), omega (arith, line.0))
+branch_kind k v (inr (inl greater)) = (omega (arith, greater.0), omega (arith, greater.0))
+branch_kind k v (inr (inr (inl is, some, few))) = (omega (arith, is), omega (arith, is))
+branch_kind k v (inr (inr (inr is, some, few))) = (omega (arith, is), omega (arith, is))
 
 word_sound : {k v depth place : ℕ} {e : Refusal} → ValueInRange k v → depth ≤ 6 → WordFault k v depth place e → ⊥
 word_sound {k = k} {v = v} r shallow (WordFault.kind other _) = other (branch_kind k v r)

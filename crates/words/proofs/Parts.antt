@@ -66,10 +66,6 @@ entered_more n ws es rest v behind ok e begins few = (
     here : get_or (es ++ (v ∷ [])) n 0 ≤ most_entry
     here = omega (arith, get_or_at es v [] 0 n ok.count)
 
-pub empty_from_length : (ws : List ℕ) → length ws ≡ 0 → ws ≡ []
-empty_from_length [] e = refl
-empty_from_length (w ∷ ws) e = absurd (omega arith)
-
 pub root_in_range : (v : ℕ) → ValueInRange root_kind v → (1 ≤ v) × (v ≤ most_branches)
 root_in_range v (inl other) = absurd (omega (arith, other.0))
 root_in_range v (inr (inl other)) = absurd (omega (arith, other.0))

@@ -3,12 +3,12 @@ use Rattle.std.proofs.Common.{◌≡◌, ◌-◌, ◌++◌, length, Ok, Err, sym
 use Rattle.refusals.specs.declared.Refusal.TheVariants.{WordsLeftOver}
 use Rattle.std.proofs.lemmas.Result.{err_from_is_err_and}
 use Rattle.std.proofs.lemmas.Bool.{eqb-true, eqb-false}
+use Rattle.std.proofs.lemmas.List.{nil_from_length}
 use Rattle.words.specs.Faults.{Refused}
 use Rattle.words.specs.Grammar.{Branch}
 use Rattle.words.specs.Items.{ReadAnswer}
 use Rattle.words.proofs.Exactly.{exactly, first_refused}
 use Rattle.words.proofs.OneTree.{reads_once}
-use Rattle.words.proofs.Parts.{empty_from_length}
 use Rattle.words.proofs.Settled.{left_to_right}
 use Rattle.words.proofs.reader.read.Goals as goal
 
@@ -40,7 +40,7 @@ returns c =
     let first = c.in_ok-item.ensures.answer in
     let (t, bs, whole, branch, own) = first.1 in
     let ws = c.args.words.now in
-    let empty = empty_from_length c.in_ok-item.rest.now (eqb-true _ 0 (sym c.is_empty.ensures ∙ c.if-not-is_empty.false)) in
+    let empty = nil_from_length c.in_ok-item.rest.now (eqb-true _ 0 (sym c.is_empty.ensures ∙ c.if-not-is_empty.false)) in
     let all : bs ≡ ws = sym (whole ∙ ap (λ l. bs ++ l) empty ∙ append-nil bs) in
     let read : ReadAnswer ws (Ok c.in_ok-item.item) = (t, (first.0, subst (Branch t 1) all branch), own) in
     record { answer = read; exactly = exactly _ (Ok _) read; once = reads_once; places = left_to_right c.args.words.now }
