@@ -11,6 +11,7 @@ pub fn number(digits: &[u8], most: u64) -> Option<u64>
     if digits.is_empty() {
         return None;
     }
+    // A `try_fold` was tried: its proof goes through the types of the closure, and is no plainer.
     let mut n: u64 = 0;
     for b in digits {
         let digit = char::from(*b).to_digit(10)?;

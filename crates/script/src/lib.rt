@@ -215,6 +215,7 @@ impl Statement {
         ensures { Reads said (price_of (map (λ w. w.now) parts.now)) result }
     {
         match parts {
+            // The pattern `[b"standard"]` was tried, and its proof did not close.
             [tree] if *tree == b"standard".as_slice() => Ok(Statement::PriceStandard),
             _ => Err(Unread::Misread(Misread::UnknownTree)),
         }

@@ -18,6 +18,7 @@ const MOST_TOTAL: u64 = 2_000_000_000_000;
 fn narrowed(heap: Global, numbers: &[u64]) -> Result<Option<Vec<u32>>, AllocError>
     ensures { IfOk result (Narrowed numbers.now) }
 {
+    // No `try_collect`: its contract does not say that it fails where a number does not fit.
     let mut narrow = Vec::new(heap);
     for n in numbers {
         let Ok(charge) = u32::try_from(*n) else {
