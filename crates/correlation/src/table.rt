@@ -20,7 +20,7 @@ pub const ENTRIES: usize = BRANCHES * (BRANCHES - 1) / 2;
 #[derive(Clone, Copy)]
 struct Entries {
     size: usize,
-    // Above the diagonal, row by row.
+    // Above the diagonal, row by row; an array, since a table is copied and no vector is.
     above: [u8; ENTRIES],
     ghost few: { size ≤ most_branches },
 }

@@ -146,6 +146,7 @@ impl<H: RiskModule, T: Branches> Branches for (H, T) {
         self.1.count().saturating_add(1)
     }
 
+    // Gross and roundings go alike; one method for both would take three closures.
     fn gross(&self, sheet: &Sheet) -> Result<u32, Refusal> {
         let first = self.0.gross(sheet)?;
         let rest = self.1.gross(sheet)?;

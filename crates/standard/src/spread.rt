@@ -1,9 +1,11 @@
 // Spread up or down, with the rest of market.
 ghost use Rattle.std.specs.Prelude.{◌≡◌, [], ◌∷◌};
 ghost use Rattle.modules.specs.Charged.{charged};
-ghost use Rattle.modules.specs.Trees.{line as line_of};
+ghost use Rattle.correlation.specs.Tables.{LawfulAbove};
+ghost use Rattle.modules.specs.Sheets.{IsLine};
+ghost use Rattle.modules.specs.Trees.{line as line_of, root as root_of};
 ghost use Rattle.standard.specs.Parts.{spread_of};
-ghost use Rattle.standard.specs.Standard.{forest_of, equity_tree, real_estate_tree, currency_tree, up_tree, down_tree};
+ghost use Rattle.standard.specs.Standard.{forest_of, equity_tree, real_estate_tree, currency_tree};
 ghost use Rattle.standard.specs.Standing.{spread_tabled};
 ghost use Rattle.modules.proofs.Plainly.{charged_bounded};
 ghost use Rattle.std.proofs.Common.{rules};
@@ -43,16 +45,13 @@ fn rest() -> Rest
     (equity(), (real_estate, (currency, (line(28), End))))
 }
 
-fn up() -> Made
-    ensures { ⟦<Made as RiskModule>⟧.tree result ≡ up_tree }
+// Interest, a line of spread and the rest, under a table of their entries.
+fn with_spread(entries: &[u32], spread: usize) -> Made
+    requires lawful { LawfulAbove 6 entries.now }
+    requires known { IsLine spread }
+    ensures { ⟦<Made as RiskModule>⟧.tree result ≡ root_of entries.now (forest_of (line_of 14 ∷ line_of spread ∷ equity_tree ∷ real_estate_tree ∷ currency_tree ∷ line_of 28 ∷ [])) }
 {
-    root(&UP, (line(14), (line(15), rest())))
-}
-
-fn down() -> Made
-    ensures { ⟦<Made as RiskModule>⟧.tree result ≡ down_tree }
-{
-    root(&DOWN, (line(14), (line(16), rest())))
+    root(entries, (line(14), (line(spread), rest())))
 }
 
 impl Spread {
@@ -60,8 +59,8 @@ impl Spread {
         ensures { ⟦<Made as RiskModule>⟧.tree result ≡ spread_of self }
     {
         match self {
-            Spread::Up => up(),
-            Spread::Down => down(),
+            Spread::Up => with_spread(&UP, 15),
+            Spread::Down => with_spread(&DOWN, 16),
         }
     }
 }

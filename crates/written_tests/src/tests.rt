@@ -83,10 +83,10 @@ fn too_large(rt: HostRuntime) -> Result<(), Fail> {
 }
 
 fn refusal_of(heap: Global, words: &[u32]) -> Result<Refusal, Fail> {
-    match Written::new(words.to_vec(heap)?) {
-        Ok(_) => Err(Fail::new("the words were read")),
-        Err(refusal) => Ok(refusal),
-    }
+    let Err(refusal) = Written::new(words.to_vec(heap)?) else {
+        return Err(Fail::new("the words were read"));
+    };
+    Ok(refusal)
 }
 
 #[test]

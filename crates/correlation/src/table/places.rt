@@ -9,10 +9,10 @@ use super::{BRANCHES, Entries};
 pub fn entry_count(size: usize) -> Option<usize>
     ensures { result ≡ entry_count_answer size }
 {
-    if size == 0 || size > BRANCHES {
-        return None;
+    match size {
+        1..=BRANCHES => Some(size * (size - 1) / 2),
+        _ => None,
     }
-    Some(size * (size - 1) / 2)
 }
 
 // Where row `i` begins.
@@ -25,7 +25,7 @@ pub(crate) fn row_start(size: usize, i: usize) -> usize
 }
 
 impl Entries {
-    // The entry of two branches.
+    // The entry of two branches. That an index is below the size each method asks: a type that said so would name its table.
     pub(crate) fn at(&self, i: usize, j: usize) -> u8
         requires first { i < self.now.size }
         requires second { j < self.now.size }

@@ -16,6 +16,7 @@ impl Entries {
         ensures value { result ≡ sum_below self.now.size (λ j. entry_in self.now i j * charge_of_branch charges.now j) }
         ensures bound { result ≤ 255 * 2 ^ 32 * self.now.size }
     {
+        // Here and below a loop, as for the excess of a row.
         let mut sum = 0u64;
         for (j, charge) in charges.iter().enumerate() {
             sum += u64::from(self.at(i, j)) * u64::from(*charge);

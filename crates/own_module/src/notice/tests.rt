@@ -14,18 +14,25 @@ fn sheet_of(uncapped: i64, capped: [u64; 6]) -> Result<Sheet, Refusal> {
     Ok(sheet)
 }
 
+// At required capital 100, by the stock rule and the notice's, and by the mutual rule and the notice's.
+fn counted(sheet: &Sheet) -> Result<[u128; 4], Refusal> {
+    let stock = Stock {
+        loss_absorption: false,
+    };
+    Ok([
+        stock.counted(sheet, 100)?,
+        Notice::Stock.counted(sheet, 100)?,
+        Mutual.counted(sheet, 100)?,
+        Notice::Mutual.counted(sheet, 100)?,
+    ])
+}
+
 // At required capital 100: 10 units, limited Tier 1 of 12, paid Tier 2 of 5, unpaid of 30, and pension assets of 8.
 // The stock rule counts 10 unpaid units, and drops 2 of limited Tier 1.
 #[test]
 fn unpaid_and_excess(rt: HostRuntime) -> Result<(), Fail> {
     let sheet = sheet_of(10, [12, 5, 30, 8, 0, 0])?;
-    let stock = Stock {
-        loss_absorption: false,
-    };
-    assert_eq!(rt; stock.counted(&sheet, 100)?, 39);
-    assert_eq!(rt; Notice::Stock.counted(&sheet, 100)?, 31);
-    assert_eq!(rt; Mutual.counted(&sheet, 100)?, 41);
-    assert_eq!(rt; Notice::Mutual.counted(&sheet, 100)?, 41);
+    assert_eq!(rt; counted(&sheet)?, [39, 31, 41, 41]);
     Ok(())
 }
 
@@ -33,13 +40,7 @@ fn unpaid_and_excess(rt: HostRuntime) -> Result<(), Fail> {
 #[test]
 fn basket_within_the_limit(rt: HostRuntime) -> Result<(), Fail> {
     let sheet = sheet_of(10, [40, 60, 0, 20, 5, 50])?;
-    let stock = Stock {
-        loss_absorption: false,
-    };
-    assert_eq!(rt; stock.counted(&sheet, 100)?, 85);
-    assert_eq!(rt; Notice::Stock.counted(&sheet, 100)?, 70);
-    assert_eq!(rt; Mutual.counted(&sheet, 100)?, 85);
-    assert_eq!(rt; Notice::Mutual.counted(&sheet, 100)?, 70);
+    assert_eq!(rt; counted(&sheet)?, [85, 70, 85, 70]);
     Ok(())
 }
 
