@@ -27,6 +27,7 @@ impl Bins {
         ensures { result ≡ unless_below sheet.now.uncapped (bins_of sheet.now) }
     {
         let uncapped = u64::try_from(sheet.uncapped()).map_err(|_| Refusal::UncappedBelowZero)?;
+        // By the numbers that the rule book gives the bins, each of which every sheet has.
         Ok(Bins {
             uncapped,
             limited: sheet.capped(2).unwrap_or(0),

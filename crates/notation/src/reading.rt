@@ -35,7 +35,8 @@ impl<'a> Reader<'a> {
         }
     }
 
-    // The next token, which is passed over.
+    // The next token, which is passed over. That no word is written three methods say: a cursor of tokens within would
+    // be one more type, and no plainer.
     fn next(&mut self) -> Result<Token, Stop>
         ensures next { Answer result (λ t. self.old.left.now ≡ t ∷ self.new.left.now) (self.old.left.now ≡ []) }
         ensures kept { self.new.words ≡ self.old.words }

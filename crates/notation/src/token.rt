@@ -23,6 +23,7 @@ pub(crate) enum Token {
     EntriesClose,
 }
 
+// With the line feed, unlike the spaces of a script, whose lines are cut first.
 fn is_space(b: u8) -> bool
     ensures { result ≡ is_space_byte b }
 {
@@ -47,9 +48,11 @@ fn number(piece: &[u8]) -> Option<Token>
     ensures { result ≡ number_of piece.now }
 {
     let n = digits::number(piece, u64::from(MOST_VALUE))?;
+    // At most the largest value of a word, so that a `try_from` would add a case that never comes.
     Some(Token::Number(n as u32))
 }
 
+// Named for its clause: the library's `==` says less plainly that bytes are equal.
 fn is(piece: &[u8], name: &[u8]) -> bool
     ensures { result ≡ bytes_eq piece.now name.now }
 {

@@ -63,7 +63,7 @@ pub(crate) struct InRange {
 }
 
 impl InRange {
-    // The settings, unless one is out of range.
+    // The settings, unless one is out of range. No `TryFrom`: it would say the same by two ghost members.
     pub(crate) fn of(settings: &Settings) -> Result<InRange, Refusal>
         ensures kept { IfOk result (λ r. r.settings ≡ settings.now) }
         ensures refused { IfErr result (λ e. (settings_in settings.now ≡ false) × (e ≡ SettingOutOfRange)) }

@@ -7,7 +7,7 @@ use required::{Business, Required, Settings, required_capital};
 use std::test::Fail;
 use table::{ANSWERED, REFUSED};
 
-// A row of the table: what line 1 charges, and the twelve settings in order.
+// A row of the table: what line 1 charges, and the twelve settings in order. Rows of names would be four times as long.
 fn given(row: &[i64; 13]) -> (u64, Settings) {
     let [
         charge,

@@ -94,7 +94,7 @@ impl<T: Drop> From<AllocFailed<T>> for Fault {
     }
 }
 
-// Why a line gives no statement.
+// Why a line gives no statement. Each error type says by itself what want of memory is in it: a `From` is for one type.
 #[derive(Clone, Copy)]
 enum Unread {
     Memory,

@@ -19,6 +19,7 @@ pub fn number(word: &[u8]) -> Result<u64, Misread>
 pub fn numbers(heap: Global, words: &[&[u8]]) -> Result<Vec<u64>, Unread>
     ensures { Reads vec_items (ok_or (numbers_of (map (λ w. w.now) words.now)) NotANumber) result }
 {
+    // No `try_collect`: its contract does not say that it fails where a word is no number.
     let mut numbers = Vec::new(heap);
     for word in words {
         numbers.push(number(word)?)?;

@@ -29,8 +29,8 @@ fn narrowed(heap: Global, numbers: &[u64]) -> Result<Option<Vec<u32>>, AllocErro
     Ok(Some(narrow))
 }
 
-// Here and below `as usize` stays: a usize has 64 bits, and `try_from` would add a case that never comes.
-// Puts the table of a statement in the place of the one that stands, if it is lawful.
+// Puts the table of a statement in the place of the one that stands, if it is lawful. Here and below an outer error is
+// want of memory, which ends the run, and an inner one is an answer.
 fn answer_table(
     heap: Global,
     table: &mut Table,
@@ -42,6 +42,7 @@ fn answer_table(
     let Some(narrow) = narrowed(heap, entries)? else {
         return Ok(Err(Refusal::TableNotLawful(0)));
     };
+    // Here and below `as usize`: a usize has 64 bits, and `try_from` would add a case that never comes.
     Ok(
         table
             .replace_above(size as usize, narrow.as_slice())

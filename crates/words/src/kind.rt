@@ -23,6 +23,7 @@ impl Kind {
     pub fn of(word: u32) -> Option<Kind>
         ensures { KindOf word result }
     {
+        // By number: the language goes from a kind to its number, and not back.
         match word >> 28 {
             1 => Some(Kind::Line),
             2 => Some(Kind::Sum),

@@ -8,7 +8,8 @@ use correlation::{ENTRIES, Table};
 use refusals::Refusal;
 use std::array;
 
-// The values of the words, from the front.
+// The values of the words, from the front. An array with zeros behind them, since no heap is used, and a vector of fixed
+// room would take a loop and its proof.
 fn values_of(words: &[u32]) -> [u32; ENTRIES]
     requires { length words.now ≤ above_count most_branches }
     ensures { take (length words.now) result ≡ values words.now }

@@ -15,7 +15,7 @@ mod tests {
 
     const SUM: u32 = 0x20000001;
 
-    // The number and the place of the refusal, or 0 and 0 where the words read.
+    // The number and the place of the refusal, or 0 and 0 where the words read, as the list of cases has it.
     fn told(list: &[u32]) -> (u8, usize) {
         match read(list) {
             Ok(_) => (0, 0),
@@ -27,12 +27,9 @@ mod tests {
     fn every_list(rt: HostRuntime) {
         let mut rest: &[u32] = &WORDS;
         for (count, number, place) in CASES.iter() {
-            assert!(rt; *count <= rest.len());
-            if *count <= rest.len() {
-                let (list, behind) = rest.split_at(*count);
-                assert_eq!(rt; told(list), (*number, *place));
-                rest = behind;
-            }
+            let (list, behind) = rest.split_at_checked(*count).expect(&rt, "as many words");
+            assert_eq!(rt; told(list), (*number, *place));
+            rest = behind;
         }
         assert!(rt; rest.is_empty());
     }
@@ -45,23 +42,22 @@ mod tests {
             branches,
         } = read(&[0x40000002, 0x50000019, LINE, 0x1000000e])?
         else {
-            assert!(rt; false);
-            return Ok(());
+            return Err(Fail::new("it is no root"));
         };
         assert_eq!(rt; count, 2);
         assert_eq!(rt; entries, [0x50000019].as_slice());
         assert_eq!(rt; branches, [LINE, 0x1000000e].as_slice());
         let (first, others) = first_branch(branches)?;
-        assert_eq!(rt; line_of(first), 1);
-        assert_eq!(rt; line_of(first_item(others)?), 14);
+        assert_eq!(rt; line_of(first), Some(1));
+        assert_eq!(rt; line_of(first_item(others)?), Some(14));
         Ok(())
     }
 
-    // The number of a line, or 0 where the item is none.
-    fn line_of(item: Item) -> usize {
+    // The number of a line, where the item is one.
+    fn line_of(item: Item) -> Option<usize> {
         match item {
-            Item::Line(line) => line,
-            _ => 0,
+            Item::Line(line) => Some(line),
+            _ => None,
         }
     }
 
@@ -70,14 +66,12 @@ mod tests {
     fn parts(rt: HostRuntime) -> Result<(), Fail> {
         let list = [0x20000002, 0x20000002, LINE, LINE, 0x30000002, LINE, LINE];
         let Item::Sum { count, branches } = read(&list)? else {
-            assert!(rt; false);
-            return Ok(());
+            return Err(Fail::new("it is no sum"));
         };
         assert_eq!(rt; count, 2);
         let (first, others) = first_branch(branches)?;
         let Item::Sum { count, branches } = first else {
-            assert!(rt; false);
-            return Ok(());
+            return Err(Fail::new("its first branch is no sum"));
         };
         assert_eq!(rt; count, 2);
         assert_eq!(rt; branches.len(), 2);

@@ -71,6 +71,7 @@ pub(crate) fn charge_of(item: Item, waiting: &mut Waiting, sheet: &Sheet) -> u32
             let Ok(root) = table.root(own.as_slice()) else {
                 unreachable()
             };
+            // No `try_from`: by the clause `priced` its error cannot come.
             root as u32
         }
     }

@@ -1,7 +1,7 @@
 // What written trees answer, alone and as branches of other modules.
 use crate::cases::CASES;
 use correlation::Table;
-use modules::{Branches, End, Line, RiskModule, Root, Sheet, price};
+use modules::{Branches, Charge, End, Line, RiskModule, Root, Sheet, price};
 use refusals::Refusal;
 use std::alloc::Global;
 use std::test::Fail;
@@ -22,22 +22,27 @@ fn hundreds() -> Result<Sheet, Fail> {
     Ok(sheet)
 }
 
-// The gross, the roundings and the charge of a module, which each question answers alike.
-fn answers<M: RiskModule>(module: &M, sheet: &Sheet) -> Result<(u32, u32, u32), Refusal> {
+// What a module answers to its three questions.
+fn answers<M: RiskModule>(module: &M, sheet: &Sheet) -> Result<(u32, u32, Charge), Refusal> {
     let charge = price(module, sheet)?;
-    let gross = module.gross(sheet)?;
-    let roundings = module.roundings(sheet)?;
-    if gross != charge.gross || roundings != charge.roundings {
-        return Ok((0, 0, 0));
-    }
-    Ok((gross, roundings, charge.amount))
+    Ok((module.gross(sheet)?, module.roundings(sheet)?, charge))
+}
+
+// The same, where each question tells the same gross and roundings.
+fn alike(gross: u32, roundings: u32, amount: u32) -> (u32, u32, Charge) {
+    let charge = Charge {
+        amount,
+        gross,
+        roundings,
+    };
+    (gross, roundings, charge)
 }
 
 #[test]
 fn worked(rt: HostRuntime) -> Result<(), Fail> {
     let tree = written(rt.alloc(), &WORKED)?;
     assert_eq!(rt; tree.words().len(), 4);
-    assert_eq!(rt; answers(&tree, &hundreds()?)?, (200, 3, 159));
+    assert_eq!(rt; answers(&tree, &hundreds()?)?, alike(200, 3, 159));
     Ok(())
 }
 
@@ -53,7 +58,7 @@ fn by_calculation(rt: HostRuntime) -> Result<(), Fail> {
         let tree = written(rt.alloc(), case.words)?;
         assert_eq!(rt;
             answers(&tree, &sheet)?,
-            (case.gross, case.roundings, case.charge)
+            alike(case.gross, case.roundings, case.charge)
         );
     }
     Ok(())
@@ -66,7 +71,7 @@ fn under_a_root(rt: HostRuntime) -> Result<(), Fail> {
     sheet.set_total(29, 500_000)?;
     let branches = (written(rt.alloc(), &WORKED)?, (Line::new(29)?, End));
     let root = Root::new(Table::new(2)?, branches)?;
-    assert_eq!(rt; answers(&root, &sheet)?, (250, 5, 167));
+    assert_eq!(rt; answers(&root, &sheet)?, alike(250, 5, 167));
     Ok(())
 }
 

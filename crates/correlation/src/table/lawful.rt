@@ -69,7 +69,7 @@ fn narrowed(entries: &[u32]) -> Option<[u8; ENTRIES]>
     ensures { MatchOption result ((k : ℕ) × (k < length entries.now) × (255 < slice_index entries.now k)) (λ above. take (length entries.now) above ≡ entries.now) }
 {
     let mut above = [0u8; ENTRIES];
-    // By index, since of elements written through `iter_mut` a proof keeps only how many they are.
+    // By index: `iter_mut` was tried, and of elements written through it a proof keeps only how many they are.
     for (k, entry) in entries.iter().enumerate() {
         above[k] = u8::try_from(*entry).ok()?;
     }

@@ -15,7 +15,7 @@ pub(crate) struct Square<'a> {
 }
 
 impl<'a> Square<'a> {
-    // The entry in row `i` and column `j`.
+    // The entry in row `i` and column `j`. That an index is below the size each method asks, as for `Entries`.
     fn at(&self, i: usize, j: usize) -> u32
         requires row { i < self.now.size }
         requires column { j < self.now.size }
@@ -48,7 +48,7 @@ impl<'a> Square<'a> {
         &self.entries[i * self.size + i + 1..(i + 1) * self.size]
     }
 
-    // The entries above the diagonal, row by row.
+    // The entries above the diagonal, row by row, and zeros behind them: an array, since no heap is used.
     pub(crate) fn upper(&self) -> [u32; ENTRIES]
         ensures { Copied self.now.size self.now.entries.now result (above_count self.now.size) }
     {

@@ -21,7 +21,7 @@ impl Charges {
         ensures more { length (charges_of self.old) < most_branches → charges_of self.new ≡ charges_of self.old ++ amount ∷ [] }
         ensures full { most_branches ≤ length (charges_of self.old) → charges_of self.new ≡ charges_of self.old }
     {
-        // By index: what is written through `get_mut` is lost to the proof.
+        // By index: `get_mut` was tried, and what is written through it is lost to the proof.
         if self.count < BRANCHES {
             self.amounts[self.count] = amount;
             self.count += 1;

@@ -25,7 +25,7 @@ fn set_numbered<const N: usize>(
     requires { 1 ≤ first }
     ensures { NumberedSet first (first + N - 1) refusal number total totals.old totals.new result }
 {
-    // By index: what is written through `get_mut` is lost to the proof.
+    // By index: `get_mut` was tried, and what is written through it is lost to the proof.
     match number.checked_sub(first) {
         Some(index) if index < N => {
             totals[index] = total;

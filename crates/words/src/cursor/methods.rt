@@ -20,6 +20,7 @@ impl<'a> Cursor<'a> {
     pub(crate) fn split_first(self) -> Result<(Kind, u32, Cursor<'a>), Refusal>
         ensures { WordSplit self.entry result }
     {
+        // By `let .. else`: with `ok_or` and `?` the proof of the second refusal did not close.
         let Some((word, words)) = self.words.split_first() else {
             return Err(Refusal::WordsEndEarly(self.place));
         };

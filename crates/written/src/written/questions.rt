@@ -40,6 +40,7 @@ impl RiskModule for Written {
     ghost bounded = { λ m s. charged_bounded (tree_of m.words.items) (read_tabled m.words.items m.reads) s };
 
     fn gross(&self, sheet: &Sheet) -> Result<u32, Refusal> {
+        // Here and below a loop: a chain over an iterator of our own would need a lemma for what it takes.
         let mut gross = 0u64;
         for item in Items::of(self) {
             if let Item::Line(line) = item {
