@@ -156,6 +156,7 @@ fn parse_lines(heap: Global, lines: &[&[u8]]) -> Result<Vec<Statement>, Fault>
         let Some((word, parts)) = words.as_slice().split_first() else {
             continue;
         };
+        // By `match`: `map_err` with a closure over the line's number was tried, and its proof did not close.
         match Statement::read(heap, word, parts) {
             Ok(statement) => statements.push(statement)?,
             Err(unread) => return Err(unread.on_line(above + 1)),
