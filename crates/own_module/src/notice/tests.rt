@@ -44,6 +44,14 @@ fn basket_within_the_limit(rt: HostRuntime) -> Result<(), Fail> {
     Ok(())
 }
 
+// Of limited Tier 1 the stock rule drops 20, for which the notice has room in Tier 2.
+#[test]
+fn excess_in_tier_two(rt: HostRuntime) -> Result<(), Fail> {
+    let sheet = sheet_of(150, [30, 20, 0, 0, 0, 0])?;
+    assert_eq!(rt; counted(&sheet)?, [180, 200, 200, 200]);
+    Ok(())
+}
+
 #[test]
 fn below_0(rt: HostRuntime) -> Result<(), Fail> {
     let sheet = sheet_of(-1, [9, 9, 9, 9, 9, 9])?;
