@@ -1,4 +1,5 @@
 // A limit rule that is none of the book's: capital as the regulator's notice counts it.
+// How it differs from the stock and the mutual rule, and which way these err, is in docs/LIMITS.md.
 //
 // Whoever brings a rule writes:
 // - `scale`, in how many parts of a unit it counts, and `capital`, what it counts at each sheet and required capital;

@@ -1,5 +1,5 @@
 // Reads a sheet, and sets its totals while it is made.
-ghost use Rattle.std.specs.Prelude.{◌≡◌, ◌+◌, ◌-◌, ◌≤◌};
+ghost use Rattle.std.specs.Prelude.{◌≡◌, ◌+◌, ◌-◌, ◌≤◌, Decides};
 ghost use Rattle.modules.specs.Sheets.{Blank, numbered_answer, NumberedSet, LineSet, CappedSet, line_count, total_of, total_answer, capped_answer, with_uncapped};
 
 use super::{CAPPED, LINES, Sheet};
@@ -45,6 +45,13 @@ impl Sheet {
             uncapped: 0,
             capped: [0; CAPPED],
         }
+    }
+
+    // Whether two sheets are equal, as they are where every total is.
+    pub fn same_as(&self, other: &Sheet) -> bool
+        ensures { Decides result (self.now ≡ other.now) }
+    {
+        self == other
     }
 
     // The exact total of a line, where there is such a line.

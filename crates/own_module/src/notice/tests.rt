@@ -52,6 +52,19 @@ fn excess_in_tier_two(rt: HostRuntime) -> Result<(), Fail> {
     Ok(())
 }
 
+// Sheets are the same where every total is: bin 1, a capped bin and a line tell them apart.
+#[test]
+fn same_sheets(rt: HostRuntime) -> Result<(), Fail> {
+    let sheet = sheet_of(10, [12, 5, 30, 8, 0, 0])?;
+    assert!(rt; sheet.same_as(&sheet_of(10, [12, 5, 30, 8, 0, 0])?));
+    assert!(rt; !sheet.same_as(&sheet_of(11, [12, 5, 30, 8, 0, 0])?));
+    assert!(rt; !sheet.same_as(&sheet_of(10, [12, 5, 30, 8, 0, 1])?));
+    let mut other = sheet;
+    other.set_total(29, 1)?;
+    assert!(rt; !sheet.same_as(&other));
+    Ok(())
+}
+
 #[test]
 fn below_0(rt: HostRuntime) -> Result<(), Fail> {
     let sheet = sheet_of(-1, [9, 9, 9, 9, 9, 9])?;
