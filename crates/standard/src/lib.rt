@@ -2,7 +2,7 @@
 #![tactic(auto)]
 
 ghost use Rattle.std.specs.Prelude.{◌≡◌};
-ghost use Rattle.standard.specs.Standard.{TablesLawful, Twenty, market_tree, standard_tree};
+ghost use Rattle.standard.specs.Standard.{TablesLawful, Twenty, equity_tree, market_tree, standard_tree};
 
 mod lines;
 mod parts;
@@ -12,7 +12,7 @@ mod spread;
 pub use lines::{CatastropheLines, NonLifeLines, catastrophe_lines, non_life_lines};
 use modules::{Choice, End, Line, RiskModule, Root};
 use parts::{choice, line, root};
-pub use shares::{Equity, equity};
+pub use shares::Equity;
 pub use spread::Spread;
 
 // Life, non-life, catastrophe, market, credit.
@@ -21,6 +21,13 @@ const TOP: [u32; 10] = [0, 25, 25, 25, 25, 25, 25, 25, 25, 25];
 pub type Market = Choice<Spread, Spread>;
 
 pub type Standard<N, C> = Root<(Line, (N, (C, (Market, (Line, End)))))>;
+
+// In another file than `Equity`, since the two names differ in the case of a letter alone.
+pub fn equity() -> Equity
+    ensures { ⟦<Equity as RiskModule>⟧.tree result ≡ equity_tree }
+{
+    Equity
+}
 
 // Spread up where the total of line 15 is at least that of line 16, else spread down.
 fn market() -> Market

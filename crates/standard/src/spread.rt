@@ -11,7 +11,7 @@ ghost use Rattle.modules.proofs.Plainly.{charged_bounded};
 ghost use Rattle.std.proofs.Common.{rules};
 
 use crate::parts::{line, root, sum};
-use crate::shares::{Equity, equity};
+use crate::shares::Equity;
 use modules::{
     Branches, Charge, End, Greater, Line, PlainModule, RiskModule, Root, Sheet, Sum, plain_price,
 };
@@ -42,7 +42,7 @@ fn rest() -> Rest
 {
     let real_estate = sum((line(24), (line(25), End)));
     let currency = Greater::new(line(26), line(27));
-    (equity(), (real_estate, (currency, (line(28), End))))
+    (Equity, (real_estate, (currency, (line(28), End))))
 }
 
 // Interest, a line of spread and the rest, under a table of their entries.
