@@ -1,5 +1,5 @@
 -- Which item a word of a written tree is, and what an item makes of the branches behind it, and of their charges.
-use Rattle.std.specs.Prelude.{◌≡◌, ℕ, ◌<◌, max, List, ◌∷◌, ◌++◌, sum, Some, None, Option}
+use Rattle.std.specs.Prelude.{◌≡◌, ℕ, ◌<◌, max, List, ◌∷◌, ◌++◌, drop, sum, Some, None, Option}
 use Rattle.correlation.specs.Answers.{charge_of_branch}
 use Rattle.correlation.specs.Roots as roots
 use Rattle.correlation.specs.Tables.{entry}
@@ -13,6 +13,7 @@ use Rattle.words.specs.Words.{word, entry_kind, value_room}
 use Rattle.words.specs.declared.item.Item.{Item}
 use Rattle.words.specs.declared.item.Item.TheVariants.{Line, Sum, Greater, Root}
 use Rattle.written.specs.Forests.{join}
+use Rattle.written.specs.declared.waiting.Waiting.{Waiting}
 
 -- The item of a word and of the words behind it: it shows the head that they begin with. No item begins at an entry.
 abbrev pub ItemOf : ℕ → List ℕ → Option Item → Type 0
@@ -39,6 +40,10 @@ pub record TakesBranches (h : Head) (before after : Forest) : Type 0 where
   pub tabled : Tabled tree
   pub taken : before ≡ join own rest
   pub put : after ≡ more tree rest
+
+-- the charges that wait, the first branch first
+abbrev pub charges_waiting : Waiting → List ℕ
+charges_waiting waiting = drop waiting.first waiting.charges
 
 -- what a tree with this head charges, of the charges of its branches
 abbrev pub head_charge : Head → List ℕ → Sheet → ℕ

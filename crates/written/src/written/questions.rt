@@ -9,8 +9,9 @@ ghost use Rattle.modules.proofs.Plainly.{charged_bounded};
 ghost use Rattle.std.proofs.Common.{rules, arith};
 
 use super::Written;
-use crate::charging::{Waiting, charge_of, units};
+use crate::charging::{charge_of, units};
 use crate::items::Items;
+use crate::waiting::Waiting;
 use modules::{Charge, PlainModule, RiskModule, Sheet, gross_within, roundings_within};
 use refusals::Refusal;
 use words::Item;
@@ -23,10 +24,10 @@ impl Written {
     {
         let mut waiting = Waiting::new();
         for item in Items::of(self) {
-            let charge = charge_of(item, &mut waiting, sheet);
-            waiting.push(charge);
+            let (charge, taken) = charge_of(item, waiting.as_slice(), sheet);
+            waiting.put(taken, charge);
         }
-        waiting[0]
+        waiting.as_slice()[0]
     }
 }
 
