@@ -6,7 +6,7 @@ use Rattle.modules.specs.Trees.{Tree, Forest, none, more, gross_all}
 use Rattle.modules.specs.declared.sheet.Sheet.{Sheet}
 use Rattle.std.proofs.lemmas.List.{at_drop_more, take_rest}
 use Rattle.words.specs.Grammar.{Branch, Branches, Reads}
-use Rattle.words.specs.Heads.{Head, HeadInRange, HeadLawful, HeadOf, Opens, of_line, of_sum, of_greater, of_root, head_words}
+use Rattle.words.specs.Heads.{Head, HeadInRange, Opens, of_line, of_sum, of_greater, of_root, head_words}
 use Rattle.words.specs.Items.{Shows, values}
 use Rattle.words.specs.Words.{word, entry_words, entry_kind, value_room}
 use Rattle.words.specs.declared.item.Item.{Item}
@@ -149,23 +149,43 @@ shown_is (Root n entries branches) h ws range shows =
     let known = subst HeadInRange shows.1 range in
     ap (of_root n) (ap values shows.2 ∙ entered_values _ shows.0 known.2) ∙ sym shows.1
 
-takes : (w : ℕ) (ws : List ℕ) (item : Item) → At w ws → ItemOf w ws (Some item) → TakesBranches (shown item) (forest_of ws) (forest_of (w ∷ ws))
-takes w ws item (an_entry e small is left) found = absurd (found.1 e small is)
-takes w ws item (a_branch t f l) found =
+-- a branch takes its own branches off those behind its word
+branch_takes : (w : ℕ) (ws : List ℕ) (t : Tree) (f : Forest) (l : Laid (more t f) (w ∷ ws)) → TakesBranches (own w ws t f l).head (forest_of ws) (forest_of (w ∷ ws))
+branch_takes w ws t f l =
     let its = own w ws t f l in
-    let opens = own_opens w ws t f l in
-    let same : its.head ≡ shown item = sym (shown_is item its.head _ opens.in_range (found.0 _ _ opens.in_range opens.words)) in
     record {
       tree = t;
       own = its.forest;
       rest = f;
-      of = subst (λ x. HeadOf t x its.forest) same its.of;
-      in_range = subst HeadInRange same its.opens.in_range;
-      lawful = subst HeadLawful same its.lawful;
+      of = its.of;
+      in_range = its.opens.in_range;
+      lawful = its.lawful;
       tabled = branch_tabled t l.0 l.1 l.4;
       taken = branch_taken w ws t f l;
       put = laid_stands (more t f) (w ∷ ws) l;
     }
+
+takes : (w : ℕ) (ws : List ℕ) (item : Item) → At w ws → ItemOf w ws (Some item) → TakesBranches (shown item) (forest_of ws) (forest_of (w ∷ ws))
+takes w ws item (an_entry e small is left) found = absurd (found.1 e small is)
+takes w ws item (a_branch t f l) found =
+    let opens = own_opens w ws t f l in
+    let same : shown item ≡ (own w ws t f l).head = shown_is item _ _ opens.in_range (found.0 _ _ opens.in_range opens.words) in
+    subst (λ h. TakesBranches h (forest_of ws) (forest_of (w ∷ ws))) (sym same) (branch_takes w ws t f l)
+
+-- what a word is by itself: an entry, or the first word of a head
+pub data Word (w : ℕ) (ws : List ℕ) : Type 0 where
+  entry : (e : ℕ) → e < value_room → w ≡ word entry_kind e → forest_of (w ∷ ws) ≡ forest_of ws → Word w ws
+  head : (h : Head) (rest : List ℕ) → w ∷ ws ≡ head_words h ++ rest → TakesBranches h (forest_of ws) (forest_of (w ∷ ws)) → Word w ws
+
+word_at : (w : ℕ) (ws : List ℕ) → At w ws → Word w ws
+word_at w ws (an_entry e small is left) = Word.entry e small is (entry_left w ws e small is)
+word_at w ws (a_branch t f l) = Word.head _ _ (own_opens w ws t f l).words (branch_takes w ws t f l)
+
+pub word_split : (ws : List ℕ) (i : ℕ) → i < length ws → drop i ws ≡ get_or ws i 0 ∷ drop (i + 1) ws
+word_split ws i within = at_drop_more (λ l. l) ws i 0 within
+
+pub word_here : (ws : List ℕ) → Readable ws → (i : ℕ) → i < length ws → ∥ Word (get_or ws i 0) (drop (i + 1) ws) ∥₁
+word_here ws reads i within = ∥∥₁_map reads (λ r. word_at _ _ (at _ _ (subst Left (word_split ws i within) (left_drop i ws (read_left ws (tree_of ws) r)))))
 
 -- the same of the word before a place, where the words from the place on stand for the branches f
 module _ (ws : List ℕ) (reads : Readable ws) (place : ℕ) (some : 0 < place) (within : place ≤ length ws) (f : Forest) (is : ∥ forest_of (drop place ws) ≡ f ∥₁) where
