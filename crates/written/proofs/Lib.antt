@@ -4,3 +4,4 @@ pub mod Heads
 pub mod Suffixes
 pub mod Answered
 pub mod Walked
+pub mod Counted

@@ -1,24 +1,23 @@
 -- The words of a written tree from a place on: what is left of a root's entries, and branches behind them. Assumes nothing.
 use mathlib.Core.List.{tail}
 use Rattle.std.proofs.Math.Logic.{∥∥₁_map, ∥∥₁_elim, ∥∥₁_prop}
-use Rattle.std.proofs.Common.{◌≡◌, ℕ, zero, suc, ◌+◌, ◌<◌, ◌≤◌, List, [], ◌∷◌, ◌++◌, ◌-◌, length, get_or, take, drop, Ok, Err, sym, refl, ap, ◌∙◌, subst, subst₂, append_assoc, append-nil, le_refl, arith}
+use Rattle.std.proofs.Common.{◌≡◌, ℕ, zero, suc, ◌+◌, ◌<◌, ◌≤◌, List, [], ◌∷◌, ◌++◌, ◌-◌, length, get_or, take, drop, Some, None, sym, refl, ap, ◌∙◌, subst, subst₂, append_assoc, append-nil, le_refl, arith}
 use Rattle.modules.specs.Trees.{Tree, Forest, none, more, gross_all}
 use Rattle.modules.specs.declared.sheet.Sheet.{Sheet}
-use Rattle.refusals.specs.declared.Refusal.{Refusal}
 use Rattle.std.proofs.lemmas.List.{at_drop_more, take_rest}
 use Rattle.words.specs.Grammar.{Branch, Branches, Reads}
-use Rattle.words.specs.Heads.{Head, HeadInRange, HeadLawful, HeadOf, Opens, of_line, of_sum, of_greater, of_root, head_words}
-use Rattle.words.specs.Items.{FirstItem, OwnFirst, Shows, values}
+use Rattle.words.specs.Heads.{Head, HeadInRange, Opens, of_line, of_sum, of_greater, of_root, head_words}
+use Rattle.words.specs.Items.{Shows, values}
 use Rattle.words.specs.Words.{word, entry_words, entry_kind, value_room}
 use Rattle.words.specs.declared.item.Item.{Item}
 use Rattle.words.specs.declared.item.Item.TheVariants.{Line, Sum, Greater, Root}
 use Rattle.words.proofs.Parts.{entered_values}
-use Rattle.words.proofs.Heading.{Headed, headed, opens_more, opens_unique}
+use Rattle.words.proofs.Heading.{Headed, headed, opens_more}
 use Rattle.written.specs.Forests.{join, joined_gross}
 use Rattle.written.specs.Known.{branch_tabled}
 use Rattle.written.specs.Reading.{forest_of, tree_of, Readable}
 use Rattle.written.specs.Standing.{Small, branch_stands, entry_stands, entries_stand, entered_small}
-use Rattle.written.specs.Taking.{TakesBranches, shown}
+use Rattle.written.specs.Taking.{ItemOf, TakesBranches, shown}
 use Rattle.written.proofs.Heads.{adds}
 
 -- the words are these branches one behind the other, each at a depth of its own
@@ -72,12 +71,6 @@ head_small (of_root n es) range = entered_small _ es range.2
 
 first : {xs ys : List ℕ} → xs ≡ ys → get_or xs 0 0 ≡ get_or ys 0 0
 first e = ap (λ l. get_or l 0 0) e
-
-no_head : (h : Head) (e : ℕ) (ws rest : List ℕ) → HeadInRange h → e < value_room → word entry_kind e ∷ ws ≡ head_words h ++ rest → ⊥
-no_head (of_line n) e ws rest range small is = omega (arith, first is)
-no_head (of_sum n) e ws rest range small is = omega (arith, first is)
-no_head of_greater e ws rest range small is = omega (arith, first is)
-no_head (of_root n es) e ws rest range small is = omega (arith, first is)
 
 -- what stands first: an entry, or a branch
 data At (w : ℕ) (ws : List ℕ) : Type 0 where
@@ -142,9 +135,11 @@ gross_drop (suc i) (w ∷ ws) s l =
     omega (arith, gross_drop i ws s (left_behind w ws here), gross_more w ws s here)
 
 -- no item begins at an entry
-passed : (w : ℕ) (ws : List ℕ) (e : Refusal) → At w ws → OwnFirst (w ∷ ws) (Err e) → forest_of (w ∷ ws) ≡ forest_of ws
-passed w ws refusal (an_entry e small is left) opens = entry_left w ws e small is
-passed w ws refusal (a_branch t f l) opens = absurd (opens t l.0 l.1 l.2 l.3 l.4)
+passed : (w : ℕ) (ws : List ℕ) → At w ws → ItemOf w ws None → forest_of (w ∷ ws) ≡ forest_of ws
+passed w ws (an_entry e small is left) found = entry_left w ws e small is
+passed w ws (a_branch t f l) found =
+    let opens = own_opens w ws t f l in
+    absurd (found _ _ opens.in_range opens.words)
 
 shown_is : (item : Item) (h : Head) (ws : List ℕ) → HeadInRange h → Shows item h ws → shown item ≡ h
 shown_is (Line n) h ws range shows = sym shows
@@ -154,22 +149,43 @@ shown_is (Root n entries branches) h ws range shows =
     let known = subst HeadInRange shows.1 range in
     ap (of_root n) (ap values shows.2 ∙ entered_values _ shows.0 known.2) ∙ sym shows.1
 
-takes : (w : ℕ) (ws : List ℕ) (item : Item) → At w ws → FirstItem (w ∷ ws) (Ok item) → TakesBranches (shown item) (forest_of ws) (forest_of (w ∷ ws))
-takes w ws item (an_entry e small is left) (h, rest, opens, shows) = absurd (no_head h e ws rest opens.in_range small (ap (λ x. x ∷ ws) (sym is) ∙ opens.words))
-takes w ws item (a_branch t f l) (h, rest, opens, shows) =
+-- a branch takes its own branches off those behind its word
+branch_takes : (w : ℕ) (ws : List ℕ) (t : Tree) (f : Forest) (l : Laid (more t f) (w ∷ ws)) → TakesBranches (own w ws t f l).head (forest_of ws) (forest_of (w ∷ ws))
+branch_takes w ws t f l =
     let its = own w ws t f l in
-    let same : its.head ≡ shown item = sym (shown_is item h rest opens.in_range shows ∙ (opens_unique opens (own_opens w ws t f l)).0) in
     record {
       tree = t;
       own = its.forest;
       rest = f;
-      of = subst (λ x. HeadOf t x its.forest) same its.of;
-      in_range = subst HeadInRange same its.opens.in_range;
-      lawful = subst HeadLawful same its.lawful;
+      of = its.of;
+      in_range = its.opens.in_range;
+      lawful = its.lawful;
       tabled = branch_tabled t l.0 l.1 l.4;
       taken = branch_taken w ws t f l;
       put = laid_stands (more t f) (w ∷ ws) l;
     }
+
+takes : (w : ℕ) (ws : List ℕ) (item : Item) → At w ws → ItemOf w ws (Some item) → TakesBranches (shown item) (forest_of ws) (forest_of (w ∷ ws))
+takes w ws item (an_entry e small is left) found = absurd (found.1 e small is)
+takes w ws item (a_branch t f l) found =
+    let opens = own_opens w ws t f l in
+    let same : shown item ≡ (own w ws t f l).head = shown_is item _ _ opens.in_range (found.0 _ _ opens.in_range opens.words) in
+    subst (λ h. TakesBranches h (forest_of ws) (forest_of (w ∷ ws))) (sym same) (branch_takes w ws t f l)
+
+-- what a word is by itself: an entry, or the first word of a head
+pub data Word (w : ℕ) (ws : List ℕ) : Type 0 where
+  entry : (e : ℕ) → e < value_room → w ≡ word entry_kind e → forest_of (w ∷ ws) ≡ forest_of ws → Word w ws
+  head : (h : Head) (rest : List ℕ) → w ∷ ws ≡ head_words h ++ rest → TakesBranches h (forest_of ws) (forest_of (w ∷ ws)) → Word w ws
+
+word_at : (w : ℕ) (ws : List ℕ) → At w ws → Word w ws
+word_at w ws (an_entry e small is left) = Word.entry e small is (entry_left w ws e small is)
+word_at w ws (a_branch t f l) = Word.head _ _ (own_opens w ws t f l).words (branch_takes w ws t f l)
+
+pub word_split : (ws : List ℕ) (i : ℕ) → i < length ws → drop i ws ≡ get_or ws i 0 ∷ drop (i + 1) ws
+word_split ws i within = at_drop_more (λ l. l) ws i 0 within
+
+pub word_here : (ws : List ℕ) → Readable ws → (i : ℕ) → i < length ws → ∥ Word (get_or ws i 0) (drop (i + 1) ws) ∥₁
+word_here ws reads i within = ∥∥₁_map reads (λ r. word_at _ _ (at _ _ (subst Left (word_split ws i within) (left_drop i ws (read_left ws (tree_of ws) r)))))
 
 -- the same of the word before a place, where the words from the place on stand for the branches f
 module _ (ws : List ℕ) (reads : Readable ws) (place : ℕ) (some : 0 < place) (within : place ≤ length ws) (f : Forest) (is : ∥ forest_of (drop place ws) ≡ f ∥₁) where
@@ -181,12 +197,18 @@ module _ (ws : List ℕ) (reads : Readable ws) (place : ℕ) (some : 0 < place) 
   here : ∥ At (get_or ws (place - 1) 0) (drop place ws) ∥₁
   here = ∥∥₁_map reads (λ r. at _ _ (subst Left split (left_drop (place - 1) ws (read_left ws (tree_of ws) r))))
 
-  pub passed_here : (e : Refusal) → OwnFirst (take (length ws - (place - 1)) (drop (place - 1) ws)) (Err e) → ∥ forest_of (drop (place - 1) ws) ≡ f ∥₁
-  passed_here e own =
-      let own_first = subst (λ l. OwnFirst l (Err e)) (take_rest ws (place - 1) ∙ split) own in
-      ∥∥₁_elim here ∥∥₁_prop (λ a. ∥∥₁_map is (λ known. ap forest_of split ∙ passed _ _ e a own_first ∙ known))
+  -- the words behind it, as they are handed on
+  behind_it : take (length ws - (place - 1 + 1)) (drop (place - 1 + 1) ws) ≡ drop place ws
+  behind_it =
+      let next : place - 1 + 1 ≡ place = omega arith in
+      take_rest ws (place - 1 + 1) ∙ ap (λ k. drop k ws) next
 
-  pub takes_here : (item : Item) → FirstItem (take (length ws - (place - 1)) (drop (place - 1) ws)) (Ok item) → ∥ TakesBranches (shown item) f (forest_of (drop (place - 1) ws)) ∥₁
-  takes_here item opening =
-      let first_item = subst (λ l. FirstItem l (Ok item)) (take_rest ws (place - 1) ∙ split) opening in
-      ∥∥₁_elim here ∥∥₁_prop (λ a. ∥∥₁_map is (λ known. subst₂ (TakesBranches (shown item)) known (sym (ap forest_of split)) (takes _ _ item a first_item)))
+  pub passed_here : ItemOf (get_or ws (place - 1) 0) (take (length ws - (place - 1 + 1)) (drop (place - 1 + 1) ws)) None → ∥ forest_of (drop (place - 1) ws) ≡ f ∥₁
+  passed_here found =
+      let none = subst (λ l. ItemOf (get_or ws (place - 1) 0) l None) behind_it found in
+      ∥∥₁_elim here ∥∥₁_prop (λ a. ∥∥₁_map is (λ known. ap forest_of split ∙ passed _ _ a none ∙ known))
+
+  pub takes_here : (item : Item) → ItemOf (get_or ws (place - 1) 0) (take (length ws - (place - 1 + 1)) (drop (place - 1 + 1) ws)) (Some item) → ∥ TakesBranches (shown item) f (forest_of (drop (place - 1) ws)) ∥₁
+  takes_here item found =
+      let its = subst (λ l. ItemOf (get_or ws (place - 1) 0) l (Some item)) behind_it found in
+      ∥∥₁_elim here ∥∥₁_prop (λ a. ∥∥₁_map is (λ known. subst₂ (TakesBranches (shown item)) known (sym (ap forest_of split)) (takes _ _ item a its)))

@@ -3,18 +3,16 @@ use mathlib.Core.List.{is_set}
 use Rattle.std.proofs.Math.Logic.{∥∥₁_elim, ∥∥₁_map, ∥∥₁_prop}
 use Rattle.std.proofs.Math.Bridge.{le_prop}
 use Rattle.std.proofs.Math.Nat.{ℕ_set}
-use Rattle.std.proofs.Common.{◌≡◌, ℕ, ◌+◌, ◌≤◌, List, [], ◌∷◌, ◌++◌, length, take, drop, None, ◌⊎◌, ⊎_elim, Bor, sym, refl, ap, ◌∙◌, length-append, arith}
+use Rattle.std.proofs.Common.{◌≡◌, ℕ, ◌+◌, ◌≤◌, List, [], ◌∷◌, ◌++◌, length, take, drop, None, sym, ap, ◌∙◌, length-append, arith}
 use Rattle.modules.specs.Charged.{charged, charged_all}
-use Rattle.modules.specs.Trees.{Forest, none, more, gross, gross_all, roundings, roundings_all}
+use Rattle.modules.specs.Trees.{Forest, none, more, gross, gross_all, roundings_all}
 use Rattle.modules.specs.declared.sheet.Sheet.{Sheet}
 use Rattle.std.proofs.lemmas.List.{take_at, drop_at}
 use Rattle.words.specs.Heads.{Head, HeadInRange, HeadLawful, due}
 use Rattle.written.specs.Forests.{joined_gross, joined_roundings, joined_charged, charged_count}
 use Rattle.written.specs.Known.{reads_alone}
 use Rattle.written.specs.Reading.{forest_of, tree_of}
-use Rattle.written.specs.Taking.{TakesBranches, head_charge, shown}
-use Rattle.words.specs.declared.item.Item.{Item}
-use Rattle.words.specs.declared.item.Item.TheVariants.{Line, Sum, Greater, Root}
+use Rattle.written.specs.Taking.{TakesBranches, head_charge}
 use Rattle.written.specs.Walking.{Steps, walked}
 use Rattle.written.specs.declared.items.Items.{Items}
 use Rattle.written.proofs.Charged.{charged_within}
@@ -62,23 +60,6 @@ module _ {h : Head} {f g : Forest} (takes : ∥ TakesBranches h f g ∥₁) wher
     charge_small = ∥∥₁_elim takes le_prop (λ t.
         omega (arith, charges t, charged_within t.tree t.tabled s, ap (λ x. gross_all x s) t.put))
 
--- an item that is no line has no gross of its own
-pub no_line : (item : Item) (s : Sheet) → ((n : ℕ) → item ≡ Line n → ⊥) → own_gross (shown item) s ≡ 0
-no_line (Line n) s other = absurd (other n refl)
-no_line (Sum n branches) s other = refl
-no_line (Greater branches) s other = refl
-no_line (Root n entries branches) s other = refl
-
--- a line and a root round once, and the others not
-pub one_rounding : (item : Item) → ((n : ℕ) × (item ≡ Line n)) ⊎ ((n : ℕ) × (entries : Bor (List ℕ)) × (branches : Bor (List ℕ)) × (item ≡ Root n entries branches)) → own_roundings (shown item) ≡ 1
-one_rounding item is = ⊎_elim (λ p. ap (λ x. own_roundings (shown x)) p.1) (λ p. ap (λ x. own_roundings (shown x)) p.3) is
-
-pub no_rounding : (item : Item) → ((n : ℕ) → item ≡ Line n → ⊥) → ((n : ℕ) (entries branches : Bor (List ℕ)) → item ≡ Root n entries branches → ⊥) → own_roundings (shown item) ≡ 0
-no_rounding (Line n) line root = absurd (line n refl)
-no_rounding (Sum n branches) line root = refl
-no_rounding (Greater branches) line root = refl
-no_rounding (Root n entries branches) line root = absurd (root n entries branches refl)
-
 -- no part of the words has more than the gross of the tree
 pub part_gross : (items : Items) (ws : List ℕ) (s : Sheet) → items.words.now ≡ ws → gross_all (walked items) s ≤ gross (tree_of ws) s
 part_gross items ws s same = ∥∥₁_elim items.reads le_prop (λ r.
@@ -91,11 +72,5 @@ module _ (before after : Items) (steps : Steps before None after) (ws : List ℕ
       sym e ∙ ap (λ i. forest_of (drop i after.words.now)) steps.1 ∙ reads_alone after.words.now (tree_of after.words.now) r ∙ ap (λ l. more (tree_of l) none) (steps.0 ∙ same)))
 
   module _ (s : Sheet) where
-    pub gross_whole : gross_all (walked before) s ≡ gross (tree_of ws) s
-    gross_whole = ∥∥₁_elim alone (ℕ_set _ _) (λ e. omega (arith, ap (λ x. gross_all x s) e))
-
-    pub roundings_whole : roundings_all (walked before) s ≡ roundings (tree_of ws) s
-    roundings_whole = ∥∥₁_elim alone (ℕ_set _ _) (λ e. omega (arith, ap (λ x. roundings_all x s) e))
-
     pub charges_whole : charged_all (walked before) s ≡ charged (tree_of ws) s ∷ []
     charges_whole = ∥∥₁_elim alone (is_set ℕ_set _ _) (λ e. ap (λ x. charged_all x s) e)

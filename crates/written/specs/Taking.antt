@@ -1,5 +1,5 @@
--- What an item of a written tree makes of the branches behind it, and of their charges.
-use Rattle.std.specs.Prelude.{◌≡◌, ℕ, max, List, sum}
+-- Which item a word of a written tree is, and what an item makes of the branches behind it, and of their charges.
+use Rattle.std.specs.Prelude.{◌≡◌, ℕ, ◌<◌, max, List, ◌∷◌, ◌++◌, drop, sum, Some, None, Option}
 use Rattle.correlation.specs.Answers.{charge_of_branch}
 use Rattle.correlation.specs.Roots as roots
 use Rattle.correlation.specs.Tables.{entry}
@@ -7,11 +7,20 @@ use Rattle.modules.specs.Bounds.{Tabled}
 use Rattle.modules.specs.Sheets.{line_units}
 use Rattle.modules.specs.Trees.{Tree, Forest, more}
 use Rattle.modules.specs.declared.sheet.Sheet.{Sheet}
-use Rattle.words.specs.Heads.{Head, HeadInRange, HeadLawful, HeadOf, of_line, of_sum, of_greater, of_root}
-use Rattle.words.specs.Items.{values}
+use Rattle.words.specs.Heads.{Head, HeadInRange, HeadLawful, HeadOf, of_line, of_sum, of_greater, of_root, head_words}
+use Rattle.words.specs.Items.{Shows, values}
+use Rattle.words.specs.Words.{word, entry_kind, value_room}
 use Rattle.words.specs.declared.item.Item.{Item}
 use Rattle.words.specs.declared.item.Item.TheVariants.{Line, Sum, Greater, Root}
 use Rattle.written.specs.Forests.{join}
+use Rattle.written.specs.declared.waiting.Waiting.{Waiting}
+
+-- The item of a word and of the words behind it: it shows the head that they begin with. No item begins at an entry.
+abbrev pub ItemOf : ℕ → List ℕ → Option Item → Type 0
+ItemOf w ws (Some item) =
+    ((h : Head) (rest : List ℕ) → HeadInRange h → w ∷ ws ≡ head_words h ++ rest → Shows item h rest)
+    × ((e : ℕ) → e < value_room → w ≡ word entry_kind e → ⊥)
+ItemOf w ws None = (h : Head) (rest : List ℕ) → HeadInRange h → w ∷ ws ≡ head_words h ++ rest → ⊥
 
 -- the head that an item shows
 abbrev pub shown : Item → Head
@@ -31,6 +40,10 @@ pub record TakesBranches (h : Head) (before after : Forest) : Type 0 where
   pub tabled : Tabled tree
   pub taken : before ≡ join own rest
   pub put : after ≡ more tree rest
+
+-- the charges that wait, the first branch first
+abbrev pub charges_waiting : Waiting → List ℕ
+charges_waiting waiting = drop waiting.first waiting.charges
 
 -- what a tree with this head charges, of the charges of its branches
 abbrev pub head_charge : Head → List ℕ → Sheet → ℕ

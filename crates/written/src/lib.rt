@@ -3,6 +3,7 @@
 
 mod charging;
 mod items;
+mod waiting;
 mod written;
 
 pub use written::Written;

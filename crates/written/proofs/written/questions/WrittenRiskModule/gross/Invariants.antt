@@ -1,13 +1,11 @@
--- What the loop of `Written::gross` keeps: the gross of the branches that were walked over.
-use Rattle.std.proofs.Common.{◌≡◌, ◌+◌, ◌*◌, ◌≤◌}
+-- What the loop of `Written::gross` keeps: the gross of the words so far, and of those from there on.
+use Rattle.std.proofs.Common.{◌≡◌, ◌+◌, ◌*◌, ◌≤◌, drop}
 use Rattle.modules.specs.Answers.{most_gross}
 use Rattle.modules.specs.Trees.{gross_all}
-use Rattle.words.specs.Words.{most_words}
-use Rattle.written.specs.Walking.{walked}
+use Rattle.written.specs.Reading.{forest_of}
 use Rattle.written.proofs.written.questions.WrittenRiskModule.gross.Given as goal
 
-abbrev pub invariant-loop-item : goal.invariant-loop-item
-invariant-loop-item l =
-    (l.item-iterator.words.now ≡ l.self.words.items)
-    × (l.gross ≡ gross_all (walked l.item-iterator) l.sheet)
-    × (l.gross + most_gross * l.item-iterator.left ≤ most_gross * most_words)
+abbrev pub invariant-loop-word : goal.invariant-loop-word
+invariant-loop-word l =
+    (l.gross + gross_all (forest_of (drop l.word-index l.words)) l.sheet ≡ gross_all (forest_of l.words) l.sheet)
+    × (l.gross ≤ most_gross * l.word-index)
