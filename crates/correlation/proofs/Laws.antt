@@ -1,5 +1,5 @@
 -- The least root exists, and the laws of roots under a lawful table. Assumes nothing.
-use Rattle.std.proofs.Common.{◌≡◌, ℕ, zero, suc, ◌+◌, ◌-◌, ◌*◌, ◌/◌, ◌<◌, ◌≤◌, leb, sym, ap, ◌∙◌, ⊎_elim, le_trans, mul-le-mul_right, mul-le-mul, mul-le-mul_left, arith}
+use Rattle.std.proofs.Common.{◌≡◌, ℕ, zero, suc, ◌+◌, ◌-◌, ◌*◌, ◌/◌, ◌%◌, ◌<◌, ◌≤◌, min, leb, sym, ap, ◌∙◌, ⊎_elim, le_trans, mul-le-mul_right, mul-le-mul, mul-le-mul_left, arith}
 use Rattle.std.proofs.lemmas.Bool.{cases_lt, leb-true, leb-false, cond_both}
 use Rattle.correlation.specs.Sums.{sum_below}
 use Rattle.correlation.specs.Tables.{Lawful}
@@ -105,6 +105,14 @@ module _ (n : ℕ) (r : ℕ → ℕ → ℕ) (law : Lawful n r) where
     at_least = λ c i i<. le_from_squares (c i) (root n r c) (omega (arith, form_member c i i<, (least_root_is (form n r c)).enough));
     widens = λ w c d h. form_widens c d w h;
   }
+
+-- by the whole root of a hundredth of q, rounded up
+pub root_exact : (q s b : ℕ) → s ≡ q / 100 + min 1 (q % 100) → b * b ≡ s → b ≡ least_root q
+root_exact q s b ceil e = only_root q b (record { enough = omega arith; least = λ v h. le_from_squares b v (omega arith) })
+
+pub root_above : (q s b : ℕ) → s ≡ q / 100 + min 1 (q % 100) → b * b ≤ s → s < (b + 1) * (b + 1) → (b * b ≡ s → ⊥) → b + 1 ≡ least_root q
+root_above q s b ceil low high e =
+    only_root q (b + 1) (record { enough = omega arith; least = λ v h. ⊎_elim (λ l. omega arith) (λ l. absurd (e (omega (arith, square_mono l)))) (cases_lt b v) })
 
 -- one more than the whole root of a hundredth of the number before q
 pub root_next : (q b : ℕ) → 1 ≤ q → b * b ≤ (q - 1) / 100 → (q - 1) / 100 < (b + 1) * (b + 1) → b + 1 ≡ least_root q

@@ -1,12 +1,13 @@
 -- What an answer tells of the gross and the roundings that it was given for. Assumes nothing.
-use Rattle.std.specs.Prelude.{◌≡◌, ℕ, ◌+◌, ◌^◌, ◌<◌, ◌≤◌, Bool, true, false, cond, List, [], ◌∷◌, ◌++◌, length, Ok, Err, sum, Result, nat_le, refl}
-use Rattle.std.proofs.Common.{sym, ap, subst₂, ◌∙◌, append_assoc, arith, length-append}
+use Rattle.std.specs.Prelude.{◌≡◌, ℕ, ◌+◌, ◌^◌, ◌<◌, ◌≤◌, max, Bool, true, false, cond, List, [], ◌∷◌, ◌++◌, length, IfOk, Ok, Err, sum, Result, OnOk, nat_le, refl}
+use Rattle.std.proofs.Common.{sym, ap, subst, subst₂, ◌∙◌, append_assoc, arith, length-append}
 use Rattle.refusals.specs.declared.Refusal.{Refusal}
 use Rattle.refusals.specs.declared.Refusal.TheVariants.{GrossTooLarge, TooManyRoundings}
 use Rattle.std.proofs.lemmas.Bool.{leb-true, le-leb, cond-true}
 use Rattle.std.proofs.lemmas.List.Sums.{sum_by-cons}
-use Rattle.modules.specs.Answers.{Priced, Bounded, BoundedAll, most_gross, most_roundings, gross_answer, answer_of, charge_of, charge_answer}
+use Rattle.modules.specs.Answers.{Priced, Within, Bounded, BoundedAll, most_gross, most_roundings, gross_answer, answer_of, charge_of, charge_answer}
 use Rattle.modules.specs.Bounds.{Tabled, TabledAll}
+use Rattle.modules.specs.Gathered.{largest_of}
 use Rattle.modules.specs.Trees as trees
 use Rattle.modules.specs.Trees.{Tree, Forest, none, more, greater, branch_count, gross, gross_all, roundings, roundings_all}
 use Rattle.modules.specs.declared.answer.Charge.{Charge}
@@ -39,6 +40,10 @@ refused_gross g n x e h = err_by (nat_le g most_gross) g _ e h
 
 pub refused_charge : (t : Tree) (s : Sheet) (c : ℕ) (e : Refusal) → Err e ≡ gross_answer (gross t s) → Err e ≡ charge_answer t s c
 refused_charge t s c e h = refused_gross (gross t s) (roundings t s) (charge_of c (gross t s) (roundings t s)) e h
+
+pub made_always : {A E : Type 0} (r : Result A E) (P : Type 0) → P → OnOk r (P)
+made_always (Ok x) P p = p
+made_always (Err e) P p = tt
 
 -- one charge was gathered, and then the rest
 gathered_more : (before mid after values : List ℕ) (a v n : ℕ) → (length before < 8 → mid ≡ before ++ a ∷ []) → a ≡ v → (length mid + n ≤ 8 → after ≡ mid ++ values) → length before + (1 + n) ≤ 8 → after ≡ before ++ (v ∷ values)
@@ -78,3 +83,21 @@ module _ (t : Tree) (f : Forest) (s : Sheet) (v : ℕ) (vs : List ℕ) (a b : Ch
   pub gathered_is : (before mid after : List ℕ) → (length before < 8 → mid ≡ before ++ a.amount ∷ []) → (length mid + branch_count f ≤ 8 → after ≡ mid ++ vs) → length before + (1 + branch_count f) ≤ 8 → after ≡ before ++ (v ∷ vs)
   gathered_is before mid after pushed behind room =
       gathered_more before mid after vs a.amount v (branch_count f) pushed (ap (λ x. x.amount) first_is) behind room
+
+-- the larger of two gathered charges
+pub greater_charge : (t u : Tree) (s : Sheet) (v w most : ℕ) (a : Charge) (before after : List ℕ) → Ok a ≡ charge_answer (trees.sum (more t (more u none))) s (sum (v ∷ w ∷ [])) → before ≡ [] → (length before + branch_count (more t (more u none)) ≤ 8 → after ≡ before ++ (v ∷ w ∷ [])) → most ≡ largest_of after → Ok (charge_of most a.gross a.roundings) ≡ charge_answer (greater t u) s (max v w)
+greater_charge t u s v w most a before after told empty gathered is =
+    let a_is = charge_told (trees.sum (more t (more u none))) s (sum (v ∷ w ∷ [])) a told in
+    let priced = priced_by (gross_all (more t (more u none)) s) (roundings_all (more t (more u none)) s) (charge_of (sum (v ∷ w ∷ [])) _ _) a told in
+    let amount : most ≡ max v w = omega (arith, ap largest_of (gathered (omega (arith, ap length empty)) ∙ ap (λ l. l ++ (v ∷ w ∷ [])) empty)) in
+    let g_is : a.gross ≡ gross t s + gross u s = omega (arith, ap (λ x. x.gross) a_is) in
+    let n_is : a.roundings ≡ roundings t s + roundings u s = omega (arith, ap (λ x. x.roundings) a_is) in
+    (λ i. Ok (charge_of (amount i) (g_is i) (n_is i)))
+    ∙ sym (answer_priced (gross t s + gross u s) (roundings t s + roundings u s) _ (record { gross_in = omega (arith, priced.gross_in); roundings_in = omega (arith, priced.roundings_in) }))
+
+-- what is answered keeps within the bounds
+pub answered_within : (t : Tree) (s : Sheet) (c : ℕ) (r : Result Charge Refusal) → r ≡ charge_answer t s c → Bounded t s c → IfOk r (λ x. (k : ℕ) → 1 ≤ k → Within t s x.amount k)
+answered_within t s c (Err e) h bounded = tt
+answered_within t s c (Ok y) h bounded = λ k one.
+    let p = priced_by (gross t s) (roundings t s) (charge_of c (gross t s) (roundings t s)) y h in
+    subst (λ x. Within t s x.amount k) (sym (charge_told t s c y h)) (bounded p k one)

@@ -7,6 +7,7 @@
 // - the questions `gross`, `roundings` and `charge`, each answered as for that tree.
 // The lemma behind `bounded` stands in specs/Lone.antt, and the proofs that the check does not find by itself in proofs/prudent.
 ghost use Rattle.std.specs.Prelude.{◌≡◌, ◌+◌, []};
+ghost use Rattle.modules.specs.Answers.{roundings_answer};
 ghost use Rattle.modules.specs.Trees.{root, more, none};
 ghost use Rattle.own_module.specs.Lone.{lone_bounded};
 ghost use Rattle.std.proofs.Common.{rules};
@@ -31,6 +32,13 @@ impl<M: RiskModule> Prudent<M> {
     }
 }
 
+// Roundings with one more, unless they are too many.
+fn one_more(roundings: u32) -> Result<u32, Refusal>
+    ensures { result ≡ roundings_answer (roundings + 1) }
+{
+    roundings_within(u64::from(roundings) + 1)
+}
+
 impl<M: RiskModule> RiskModule for Prudent<M> {
     ghost tree = { λ m. root [] (more (M.RiskModule.tree m.branch) none) };
 
@@ -45,12 +53,12 @@ impl<M: RiskModule> RiskModule for Prudent<M> {
     }
 
     fn roundings(&self, sheet: &Sheet) -> Result<u32, Refusal> {
-        roundings_within(u64::from(self.branch.roundings(sheet)?) + 1)
+        one_more(self.branch.roundings(sheet)?)
     }
 
     fn charge(&self, sheet: &Sheet) -> Result<Charge, Refusal> {
         let branch = self.branch.charge(sheet)?;
-        let roundings = roundings_within(u64::from(branch.roundings) + 1)?;
+        let roundings = one_more(branch.roundings)?;
         Ok(Charge {
             amount: branch.amount + 1,
             gross: branch.gross,

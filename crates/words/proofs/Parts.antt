@@ -1,8 +1,9 @@
 -- A word and its parts, and the entries at the front of words. Assumes nothing.
-use Rattle.std.proofs.Common.{◌≡◌, ℕ, suc, ◌+◌, ◌-◌, ◌/◌, ◌%◌, ◌<◌, ◌≤◌, List, [], ◌∷◌, ◌++◌, length, get_or, take, Some, Err, Result, subst, sym, refl, ap, ◌∙◌, inl, inr, append_assoc, arith, length-append, below_more}
+use Rattle.std.proofs.Common.{◌≡◌, ℕ, suc, ◌+◌, ◌-◌, ◌/◌, ◌%◌, ◌<◌, ◌≤◌, List, [], ◌∷◌, ◌++◌, length, get_or, take, Some, Err, Result, subst, sym, refl, ap, ◌∙◌, inl, inr, ⊎_elim, append_assoc, arith, length-append, below_more}
 use Rattle.correlation.proofs.Places.{above_count_few}
 use Rattle.correlation.specs.Answers.{entry_count_answer}
 use Rattle.correlation.specs.Tables.{most_branches, above_count}
+use Rattle.modules.specs.Sheets.{IsLine}
 use Rattle.std.specs.Result.{IsErrAnd}
 use Rattle.std.proofs.lemmas.Result.{err_from_is_err_and}
 use Rattle.std.proofs.lemmas.Nat.{div-add-mod', mod_below, mod-mul-add}
@@ -16,7 +17,7 @@ use Rattle.words.specs.Steps.{NoWord}
 use Rattle.words.specs.declared.cursor.Cursor.{Cursor}
 use Rattle.words.specs.declared.kind.Kind.{Kind}
 use Rattle.words.specs.declared.kind.Kind.TheVariants.{Line, Sum, Greater, Root, Entry}
-use Rattle.words.specs.Words.{word, entry_words, root_kind, entry_kind, kind_number, value_room, most_entry, ValueInRange}
+use Rattle.words.specs.Words.{word, entry_words, line_kind, root_kind, entry_kind, kind_number, value_room, most_entry, ValueInRange}
 
 pub begins_with : (ws : List ℕ) (w : ℕ) (rest : List ℕ) (k v : ℕ) → ws ≡ w ∷ rest → k ≡ w / value_room → v ≡ w % value_room → Begins ws k v rest
 begins_with ws w rest k v e is-kind is-value =
@@ -65,6 +66,11 @@ entered_more n ws es rest v behind ok e begins few = (
 
     here : get_or (es ++ (v ∷ [])) n 0 ≤ most_entry
     here = omega (arith, get_or_at es v [] 0 n ok.count)
+
+pub line_in_range : (k v : ℕ) → k ≡ line_kind → ValueInRange k v → IsLine v
+line_in_range k v is (inl own) = own.1
+line_in_range k v is (inr (inl other)) = absurd (omega (arith, other.0))
+line_in_range k v is (inr (inr other)) = absurd (⊎_elim (λ e. omega arith) (λ e. omega arith) other.0)
 
 pub root_in_range : (v : ℕ) → ValueInRange root_kind v → (1 ≤ v) × (v ≤ most_branches)
 root_in_range v (inl other) = absurd (omega (arith, other.0))

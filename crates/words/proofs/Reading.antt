@@ -1,5 +1,5 @@
 -- A head, with as many branches behind it as are due, is a branch of a tree. Assumes nothing.
-use Rattle.std.proofs.Common.{◌≡◌, ℕ, suc, ◌+◌, ◌≤◌, List, [], ◌∷◌, ◌++◌, length, Ok, Err, Result, sym, refl, ap, ◌∙◌, subst, append_assoc, append-nil, add-one, arith}
+use Rattle.std.proofs.Common.{◌≡◌, ℕ, suc, ◌+◌, ◌≤◌, List, [], ◌∷◌, ◌++◌, length, Ok, Err, Result, sym, refl, ap, ◌∙◌, subst, append_assoc, append-nil, add-one, arith, length-append}
 use Rattle.correlation.specs.Tables.{LawfulAbove}
 use Rattle.modules.specs.Trees as trees
 use Rattle.modules.specs.Trees.{Tree, Forest, line, greater, root, choice, none, more, branch_count}
@@ -13,6 +13,7 @@ use Rattle.words.specs.Steps.{BranchesRead}
 use Rattle.words.specs.Words.{word, entry_words, line_kind, sum_kind, greater_kind, root_kind, most_depth}
 use Rattle.words.specs.declared.cursor.Cursor.{Cursor}
 use Rattle.words.specs.declared.item.Item.{Item}
+use Rattle.words.proofs.Heading.{headed}
 use Rattle.words.proofs.Parts.{place_behind}
 
 -- the tree of a head and of branches
@@ -53,6 +54,18 @@ whole {depth = depth} {h = h} o law f n bs left e count count' b =
       branch = made.2;
       item = λ i shows. (h, f, bs, made.1, deeper, shows);
     }
+
+-- a head takes a word at least, and so does a branch
+pub head_some : (h : Head) → 1 ≤ length (head_words h)
+head_some (of_line n) = omega arith
+head_some (of_sum n) = omega arith
+head_some of_greater = omega arith
+head_some (of_root n es) = omega arith
+
+pub branch_some : (t : Tree) (depth : ℕ) (bs : List ℕ) → Branch t depth bs → 1 ≤ length bs
+branch_some t depth bs b =
+    let own = headed t depth bs b in
+    omega (arith, head_some own.head, simp length-append at (ap length own.opens.words))
 
 -- a fault of the branches is one of the branch
 pub under_read : {depth : ℕ} {h : Head} {e : Refusal} (n : ℕ) (from behind : Cursor) → Opens depth from.words.now h behind.words.now → IsBehind from behind → HeadLawful h → n ≡ due h

@@ -1,7 +1,7 @@
 // A unit more over a line, under a root, and at what is refused.
-use super::Prudent;
+use super::{Prudent, one_more};
 use correlation::Table;
-use modules::{Branches, End, Line, RiskModule, Root, Sheet, price, roundings_within};
+use modules::{Branches, End, Line, RiskModule, Root, Sheet, price};
 use refusals::Refusal;
 use standard::standard;
 use std::test::Fail;
@@ -69,7 +69,7 @@ fn refused(rt: HostRuntime) -> Result<(), Fail> {
     let module = Prudent::new(Line::new(1)?);
     assert_eq!(rt; module.gross(&sheet), Err(Refusal::GrossTooLarge));
     assert_eq!(rt; priced(&module, &sheet), Err(Refusal::GrossTooLarge));
-    assert_eq!(rt; roundings_within(999 + 1), Ok(1_000));
-    assert_eq!(rt; roundings_within(1_000 + 1), Err(Refusal::TooManyRoundings));
+    assert_eq!(rt; one_more(999), Ok(1_000));
+    assert_eq!(rt; one_more(1_000), Err(Refusal::TooManyRoundings));
     Ok(())
 }
