@@ -63,15 +63,18 @@ impl Entries {
     }
 }
 
-// The entries as they stand in a table, or nothing where one takes more than a byte.
+// The entries as they stand in a table, or nothing where one is above 100.
 fn narrowed(entries: &[u32]) -> Option<[u8; ENTRIES]>
     requires { length entries.now ≤ 28 }
-    ensures { MatchOption result ((k : ℕ) × (k < length entries.now) × (255 < slice_index entries.now k)) (λ above. take (length entries.now) above ≡ entries.now) }
+    ensures { MatchOption result ((k : ℕ) × (k < length entries.now) × (100 < slice_index entries.now k)) (λ above. take (length entries.now) above ≡ entries.now) }
 {
     let mut above = [0u8; ENTRIES];
     // By index: `iter_mut` was tried, and of elements written through it a proof keeps only how many they are.
     for (k, entry) in entries.iter().enumerate() {
-        above[k] = u8::try_from(*entry).ok()?;
+        match u8::try_from(*entry) {
+            Ok(entry) if entry <= 100 => above[k] = entry,
+            _ => return None,
+        }
     }
     Some(above)
 }
