@@ -1,6 +1,5 @@
 -- Numbers that were read, before those that are still to come.
-use Rattle.std.proofs.Common.{◌≡◌, ℕ, ◌+◌, ◌<◌, ◌≤◌, List, [], ◌∷◌, ◌++◌, map, length, get_or, drop, Some, None, Ok, Err, Option, Result, subst, sym, refl, ap, ◌∙◌, append_assoc, append-nil, Bor, arith}
-use Rattle.std.proofs.lemmas.List.{at_drop_more, at_drop_all}
+use Rattle.std.proofs.Common.{◌≡◌, ℕ, List, [], ◌∷◌, ◌++◌, Some, None, Ok, Err, Option, Result, subst, sym, refl, ap, ◌∙◌, append_assoc, append-nil, arith}
 use Rattle.std.specs.Option.{option_map, ok_or}
 use Rattle.std.specs.Result.{IsErrAnd}
 use Rattle.script.specs.Meaning.{Reads}
@@ -17,24 +16,18 @@ behind_more : (xs : List ℕ) (n : ℕ) (ns : Option (List ℕ)) → behind xs (
 behind_more xs n None = refl
 behind_more xs n (Some ns) = ap Some (sym (append_assoc xs (n ∷ []) ns))
 
--- the numbers of borrowed words
-abbrev pub numbers_in : List (Bor (List ℕ)) → Option (List ℕ)
-numbers_in ws = numbers_of (map (λ w. w.now) ws)
-
-module _ (ws : List (Bor (List ℕ))) (i : ℕ) (d : Bor (List ℕ)) (h : i < length ws) where
-  next : numbers_in (drop i ws) ≡ both (number_of (get_or ws i d).now) (numbers_in (drop (i + 1) ws))
-  next = at_drop_more numbers_in ws i d h
-
-  pub one_read : (xs ys : List ℕ) (n : ℕ) (all : Option (List ℕ)) → ys ≡ xs ++ n ∷ [] → Some n ≡ number_of (get_or ws i d).now → behind xs (numbers_in (drop i ws)) ≡ all → behind ys (numbers_in (drop (i + 1) ws)) ≡ all
+-- one word read, and those behind it
+module _ (before after : List (List ℕ)) (w : List ℕ) (next : before ≡ w ∷ after) where
+  pub one_read : (xs ys : List ℕ) (n : ℕ) (all : Option (List ℕ)) → ys ≡ xs ++ n ∷ [] → Some n ≡ number_of w → behind xs (numbers_of before) ≡ all → behind ys (numbers_of after) ≡ all
   one_read xs ys n all pushed read inv =
-      ap (λ l. behind l (numbers_in (drop (i + 1) ws))) pushed ∙ sym (behind_more xs n (numbers_in (drop (i + 1) ws)))
-      ∙ ap (λ o. behind xs (both o (numbers_in (drop (i + 1) ws)))) read ∙ ap (behind xs) (sym next) ∙ inv
+      ap (λ l. behind l (numbers_of after)) pushed ∙ sym (behind_more xs n (numbers_of after)) ∙ ap (λ o. behind xs (both o (numbers_of after))) read
+      ∙ ap (λ ws. behind xs (numbers_of ws)) (sym next) ∙ inv
 
-  pub none_read : (xs : List ℕ) (all : Option (List ℕ)) → None ≡ number_of (get_or ws i d).now → behind xs (numbers_in (drop i ws)) ≡ all → None ≡ all
-  none_read xs all read inv = ap (λ o. behind xs (both o (numbers_in (drop (i + 1) ws)))) read ∙ ap (behind xs) (sym next) ∙ inv
+  pub none_read : (xs : List ℕ) (all : Option (List ℕ)) → None ≡ number_of w → behind xs (numbers_of before) ≡ all → None ≡ all
+  none_read xs all read inv = ap (λ o. behind xs (both o (numbers_of after))) read ∙ ap (λ ws. behind xs (numbers_of ws)) (sym next) ∙ inv
 
-pub all_read : (ws : List (Bor (List ℕ))) (i : ℕ) (xs : List ℕ) (all : Option (List ℕ)) → length ws ≤ i → behind xs (numbers_in (drop i ws)) ≡ all → Some xs ≡ all
-all_read ws i xs all h inv = ap Some (sym (append-nil xs)) ∙ sym (ap (behind xs) (at_drop_all numbers_in ws i h)) ∙ inv
+pub all_read : (ws : List (List ℕ)) (xs : List ℕ) (all : Option (List ℕ)) → ws ≡ [] → behind xs (numbers_of ws) ≡ all → Some xs ≡ all
+all_read ws xs all none inv = ap Some (sym (append-nil xs)) ∙ ap (λ ws. behind xs (numbers_of ws)) (sym none) ∙ inv
 
 -- what `ok_or` gave was made of this
 pub some_from_ok : (o : Option ℕ) (e : Misread) (n : ℕ) → Ok n ≡ ok_or o e → Some n ≡ o

@@ -2,3 +2,4 @@
 pub mod Behind
 pub mod Turns
 pub mod Back
+pub mod FirstWord

@@ -4,9 +4,10 @@
 mod numbers;
 mod words;
 
-ghost use Rattle.std.specs.Prelude.{◌≡◌, map, Some};
-ghost use Rattle.script.specs.Meaning.{table_of, root_of, total_of, price_of, statement_of, lines_from, said, Reads, fault_on, Tells, Parsed};
+ghost use Rattle.std.specs.Prelude.{◌≡◌, Some};
+ghost use Rattle.script.specs.Meaning.{table_of, root_of, total_of, price_of, statement_of, said, Reads, fault_on, Parsed};
 ghost use Rattle.script.specs.Numbers.{numbers_of};
+ghost use Rattle.script.specs.Pieces.{words_of};
 ghost use Rattle.script.specs.Plain.{ReadBack};
 ghost use Rattle.script.specs.Shown.{misread_text, fault_text};
 ghost use Rattle.script.specs.declared.Fault.TheVariants.{Memory};
@@ -16,7 +17,7 @@ use numbers::{number, numbers};
 use std::alloc::{AllocError, AllocFailed, Global};
 use std::error::Error;
 use std::fmt;
-use words::{content, lines, words};
+use words::{Words, content};
 
 #[derive(Drop, Debug)]
 pub enum Statement {
@@ -142,22 +143,14 @@ pub fn parse(heap: Global, text: &[u8]) -> Result<Vec<Statement>, Fault>
     ensures meaning { Parsed text.now result }
     ensures back { ReadBack text.now result }
 {
-    let lines = lines(heap, text)?;
-    parse_lines(heap, lines.as_slice())
-}
-
-// The statements of lines, or the first line that is misread.
-fn parse_lines(heap: Global, lines: &[&[u8]]) -> Result<Vec<Statement>, Fault>
-    ensures { Tells (lines_from 1 (map (λ l. l.now) lines.now)) result }
-{
     let mut statements = Vec::new(heap);
-    for (above, line) in lines.iter().enumerate() {
-        let words = words(heap, content(line))?;
-        let Some((word, parts)) = words.as_slice().split_first() else {
+    for (above, line) in text.split(|b| *b == b'\n').enumerate() {
+        let mut words = Words::of(content(line));
+        let Some(word) = words.next() else {
             continue;
         };
         // By `match`: `map_err` with a closure over the line's number was tried, and its proof did not close.
-        match Statement::read(heap, word, parts) {
+        match Statement::read(heap, word, words) {
             Ok(statement) => statements.push(statement)?,
             Err(unread) => return Err(unread.on_line(above + 1)),
         }
@@ -167,8 +160,8 @@ fn parse_lines(heap: Global, lines: &[&[u8]]) -> Result<Vec<Statement>, Fault>
 
 impl Statement {
     // The statement of a line, by its first word and the words behind that.
-    fn read(heap: Global, word: &[u8], parts: &[&[u8]]) -> Result<Statement, Unread>
-        ensures { Reads said (statement_of word.now (map (λ w. w.now) parts.now)) result }
+    fn read(heap: Global, word: &[u8], parts: Words) -> Result<Statement, Unread>
+        ensures { Reads said (statement_of word.now (words_of parts.entry.left.now)) result }
     {
         match word {
             b"table" => Statement::table(heap, parts),
@@ -180,26 +173,26 @@ impl Statement {
     }
 
     // The table whose size is the first of some numbers, and whose entries are the others.
-    fn table(heap: Global, parts: &[&[u8]]) -> Result<Statement, Unread>
-        ensures { Reads said (table_of (numbers_of (map (λ w. w.now) parts.now))) result }
+    fn table(heap: Global, mut parts: Words) -> Result<Statement, Unread>
+        ensures { Reads said (table_of (numbers_of (words_of parts.entry.left.now))) result }
     {
-        let (size, entries) = parts.split_first().ok_or(Misread::SizeMissing)?;
+        let size = parts.next().ok_or(Misread::SizeMissing)?;
         let size = number(size)?;
-        let entries = numbers(heap, entries)?;
+        let entries = numbers(heap, parts)?;
         Ok(Statement::Table { size, entries })
     }
 
     // The root whose charges are some numbers.
-    fn root(heap: Global, parts: &[&[u8]]) -> Result<Statement, Unread>
-        ensures { Reads said (root_of (numbers_of (map (λ w. w.now) parts.now))) result }
+    fn root(heap: Global, parts: Words) -> Result<Statement, Unread>
+        ensures { Reads said (root_of (numbers_of (words_of parts.entry.left.now))) result }
     {
         let charges = numbers(heap, parts)?;
         Ok(Statement::Root { charges })
     }
 
     // The total whose line and amount are two numbers.
-    fn total(heap: Global, parts: &[&[u8]]) -> Result<Statement, Unread>
-        ensures { Reads said (total_of (numbers_of (map (λ w. w.now) parts.now))) result }
+    fn total(heap: Global, parts: Words) -> Result<Statement, Unread>
+        ensures { Reads said (total_of (numbers_of (words_of parts.entry.left.now))) result }
     {
         let numbers = numbers(heap, parts)?;
         let [line, amount] = numbers.as_slice() else {
@@ -212,12 +205,12 @@ impl Statement {
     }
 
     // The price by the tree that the only word names.
-    fn price(parts: &[&[u8]]) -> Result<Statement, Unread>
-        ensures { Reads said (price_of (map (λ w. w.now) parts.now)) result }
+    fn price(mut parts: Words) -> Result<Statement, Unread>
+        ensures { Reads said (price_of (words_of parts.entry.left.now)) result }
     {
-        match parts {
-            // The pattern `[b"standard"]` was tried, and its proof did not close.
-            [tree] if *tree == b"standard".as_slice() => Ok(Statement::PriceStandard),
+        match (parts.next(), parts.next()) {
+            // The pattern `b"standard"` was tried, and its proof did not close.
+            (Some(tree), None) if tree == b"standard".as_slice() => Ok(Statement::PriceStandard),
             _ => Err(Unread::Misread(Misread::UnknownTree)),
         }
     }

@@ -1,10 +1,12 @@
 // Reads words as numbers.
-ghost use Rattle.std.specs.Prelude.{◌≡◌, map, vec_items};
+ghost use Rattle.std.specs.Prelude.{◌≡◌, vec_items};
 ghost use Rattle.std.specs.Option.{ok_or};
 ghost use Rattle.script.specs.Meaning.{Reads};
 ghost use Rattle.script.specs.Numbers.{number_of, numbers_of};
+ghost use Rattle.script.specs.Pieces.{words_of};
 ghost use Rattle.script.specs.declared.Misread.TheVariants.{NotANumber};
 
+use crate::words::Words;
 use crate::{Misread, Unread};
 use std::alloc::Global;
 
@@ -16,8 +18,8 @@ pub fn number(word: &[u8]) -> Result<u64, Misread>
 }
 
 // The numbers that words stand for, where each stands for one.
-pub fn numbers(heap: Global, words: &[&[u8]]) -> Result<Vec<u64>, Unread>
-    ensures { Reads vec_items (ok_or (numbers_of (map (λ w. w.now) words.now)) NotANumber) result }
+pub fn numbers(heap: Global, words: Words) -> Result<Vec<u64>, Unread>
+    ensures { Reads vec_items (ok_or (numbers_of (words_of words.entry.left.now)) NotANumber) result }
 {
     // No `try_collect`: its contract does not say that it fails where a word is no number.
     let mut numbers = Vec::new(heap);

@@ -8,12 +8,12 @@ use Rattle.script.proofs.numbers.numbers.Goals as goal
 pub returns-in_err-number : goal.returns-in_err-number
 returns-in_err-number c =
     let none = none_from_err _ _ _ c.in_err-number.ensures in
-    let all = none_read c.args.words.now c.loop-word.word-index _ c.loop-word-test.true (vec_items c.loop-word.numbers) _ none.0 c.loop-word.invariant in
+    let all = none_read _ _ _ c.in-Some.ensures.steps (vec_items c.loop-word.numbers) _ none.0 c.loop-word.invariant in
     handed_on vec_items _ c.from_residual.result _ c.from_residual.ensures.1 (ap (λ o. ok_or o NotANumber) (sym all) ∙ ap Err (sym none.1))
 
 pub loop-word-preserved : goal.loop-word-preserved
 loop-word-preserved c =
-    one_read c.args.words.now c.loop-word.word-index _ c.loop-word-test.true (vec_items c.loop-word.numbers) (vec_items c.push.new.self) _ _ c.in_ok-push.ensures.items (some_from_ok _ _ _ c.in_ok-number.ensures) c.loop-word.invariant
+    one_read _ _ _ c.in-Some.ensures.steps (vec_items c.loop-word.numbers) (vec_items c.push.new.self) _ _ c.in_ok-push.ensures.items (some_from_ok _ _ _ c.in_ok-number.ensures) c.loop-word.invariant
 
 pub returns : goal.returns
-returns c = ap (λ o. ok_or o NotANumber) (sym (all_read c.args.words.now c.loop-word.word-index _ _ c.loop-word-test.false c.loop-word.invariant))
+returns c = ap (λ o. ok_or o NotANumber) (sym (all_read _ _ _ c.in-None.ensures.steps.0 c.loop-word.invariant))
