@@ -80,6 +80,7 @@ fn narrowed(entries: &[u32]) -> Option<[u8; ENTRIES]>
 }
 
 // The table with these entries above the diagonal, if it is lawful.
+#[inline(always)]
 pub(crate) fn lawful_table(size: usize, above: &[u32]) -> Option<Table>
     ensures { MatchOption result (LawfulAbove size above.now → ⊥) (λ t. LawfulAbove size above.now × HasAbove size above.now t) }
 {

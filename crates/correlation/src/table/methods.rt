@@ -42,7 +42,8 @@ impl Table {
         }
     }
 
-    // Becomes the table with these entries above the diagonal, row by row.
+    // Becomes the table with these entries above the diagonal, row by row. Inlined, so that a table of constants costs less.
+    #[inline(always)]
     pub fn replace_above(&mut self, size: usize, entries: &[u32]) -> Result<(), Refusal>
         ensures { Replaced (LawfulAbove size entries.now) (HasAbove size entries.now) self.old self.new result }
     {
