@@ -145,6 +145,10 @@ pub fn parse(heap: Global, text: &[u8]) -> Result<Vec<Statement>, Fault>
 {
     let mut statements = Vec::new(heap);
     for (above, line) in text.split(|b| *b == b'\n').enumerate() {
+        // An empty line says nothing, as `words` would tell too: it is passed over first, since it costs less.
+        if line.is_empty() {
+            continue;
+        }
         let mut words = Words::of(content(line));
         let Some(word) = words.next() else {
             continue;
