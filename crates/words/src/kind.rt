@@ -20,6 +20,7 @@ pub enum Kind {
 
 impl Kind {
     // The kind in the top four bits of a word, where there is one of that number.
+    #[inline(always)]
     pub fn of(word: u32) -> Option<Kind>
         ensures { KindOf word result }
     {
@@ -43,6 +44,7 @@ impl Kind {
     }
 
     // Whether a branch of this kind may have this value.
+    #[inline(always)]
     pub(crate) fn allows(self, value: usize) -> bool
         ensures { Decides result (ValueInRange (kind_number self) value) }
     {

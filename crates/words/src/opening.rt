@@ -1,4 +1,5 @@
-// The head of a branch: its own word, and a root's entries.
+// The head of a branch: its own word, and a root's entries. What is asked of each word is inlined, here and where it is called:
+// a call would cost more than what it does.
 ghost use Rattle.std.specs.Prelude.{◌≡◌, ℕ, ◌≤◌, List, ◌++◌, MatchResult};
 ghost use Rattle.correlation.specs.Tables.{most_branches};
 ghost use Rattle.words.specs.Faults.{WordFault};
@@ -19,6 +20,7 @@ const MOST_ENTRY: u32 = 100;
 const MOST_DEPTH: usize = 6;
 
 // Reads an entry in range.
+#[inline(always)]
 fn read_entry(from: Cursor) -> Result<Cursor, Refusal>
     ensures { EntryRead from.entry result }
 {
@@ -42,6 +44,7 @@ fn read_entries(from: Cursor, count: usize) -> Result<Cursor, Refusal>
 }
 
 // The root of so many branches behind whose word these words stand.
+#[inline(always)]
 fn open_root(from: Cursor, count: usize) -> Result<(Item, Cursor), Refusal>
     requires some { 1 ≤ count }
     requires few { count ≤ most_branches }
@@ -57,6 +60,7 @@ fn open_root(from: Cursor, count: usize) -> Result<(Item, Cursor), Refusal>
 }
 
 // Whether a word of this kind and this value may begin a branch at this depth.
+#[inline(always)]
 fn check_word(kind: Kind, value: usize, depth: usize, place: usize) -> Result<(), Refusal>
     ensures { MatchResult result (λ _. ValueInRange (kind_number kind) value × (depth ≤ most_depth)) (WordFault (kind_number kind) value depth place) }
 {
@@ -72,6 +76,7 @@ fn check_word(kind: Kind, value: usize, depth: usize, place: usize) -> Result<()
 }
 
 // The head that the words begin with, where a branch is due, and what stands behind it.
+#[inline(always)]
 pub(crate) fn open(from: Cursor, depth: usize) -> Result<(Item, Cursor), Refusal>
     ensures { Opening depth from.entry result }
 {

@@ -9,6 +9,7 @@ use refusals::Refusal;
 
 impl<'a> Cursor<'a> {
     // All of the words.
+    #[inline(always)]
     pub(crate) fn start(words: &'a [u32]) -> Cursor<'a>
         ensures words { result.words.now ≡ words.now }
         ensures place { result.place ≡ 0 }
@@ -17,6 +18,7 @@ impl<'a> Cursor<'a> {
     }
 
     // The kind and the value of the word that stands next, and what stands behind it.
+    #[inline(always)]
     pub(crate) fn split_first(self) -> Result<(Kind, u32, Cursor<'a>), Refusal>
         ensures { WordSplit self.entry result }
     {
@@ -35,6 +37,7 @@ impl<'a> Cursor<'a> {
     }
 
     // The words up to what a later cursor has left.
+    #[inline(always)]
     pub(crate) fn up_to(self, rest: Cursor) -> &'a [u32]
         requires order { self.place ≤ rest.place }
         requires within { rest.place ≤ end_of self }
